@@ -1,0 +1,57 @@
+// What one record of a trace says, and why one is refused.
+ghost use mathlib.Core.Path.{_≡_};
+ghost use Rattle.trace.specs.Refusals.{number as refusal};
+use crate::letters::CriterionChoice;
+use crate::letters::CriterionChoiceDebug;
+use crate::letters::Level;
+use crate::letters::LevelDebug;
+use crate::letters::ObjectChoice;
+use crate::letters::ObjectChoiceDebug;
+
+// One record. A note borrows its text from the trace.
+#[derive(Clone, Copy, Debug)]
+pub enum Record<'a> {
+    Call { thread: u8, kind: u8, a: u16, b: u16, after: u16 },
+    Reply { thread: u8, tag: u8, value: u16 },
+    Object(ObjectChoice),
+    Criterion(CriterionChoice),
+    Level { kind: u8, level: Level },
+    Note(&'a [u8]),
+}
+
+// A record and the byte place where it begins.
+#[derive(Clone, Copy, Debug)]
+pub struct Placed<'a> {
+    pub at: usize,
+    pub record: Record<'a>,
+}
+
+// Why a place of a trace is refused, in checking order.
+#[derive(Clone, Copy, Debug, PartialEq, Eq)]
+pub enum ReadFault {
+    OneByteLeft,
+    UnknownMark,
+    PastEnd,
+    BadLetter,
+}
+
+impl ReadFault {
+    // The number under which the refusal is reported.
+    pub fn number(self) -> u8
+        ensures { λ r. ⌜ r ≡ refusal self ⌝ }
+    {
+        match self {
+            ReadFault::OneByteLeft => 3,
+            ReadFault::UnknownMark => 4,
+            ReadFault::PastEnd => 5,
+            ReadFault::BadLetter => 6,
+        }
+    }
+}
+
+// A refusal and the byte place of the record that met it.
+#[derive(Clone, Copy, Debug, PartialEq, Eq)]
+pub struct Refusal {
+    pub at: usize,
+    pub fault: ReadFault,
+}
