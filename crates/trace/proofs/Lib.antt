@@ -1,2 +1,4 @@
 pub mod Places
 pub mod Marks
+pub mod Unique
+pub mod Tiling

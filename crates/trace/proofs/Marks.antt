@@ -5,7 +5,7 @@ use mathlib.Core.List.{List, [], _∷_, _++_}
 use Prim.Native.Nat.{ℕ, _+_, _-_, _≤_, _<_}
 use native.Mathlib.Omega.{arith}
 use lib.Dec.{eqb}
-use lib.ListN.{length, getD, take, drop}
+use lib.ListN.{length, getD, take, drop, length-take}
 use denote.Ref.{RefT}
 use Rattle.std.specs.declared.result.Result.{Result}
 use Rattle.trace.specs.declared.records.Record.{Record}
@@ -44,6 +44,9 @@ marked s fs = subst (λ m. take 2 (m ++ fs) ≡ m) (sym (by-letters s)) refl
 
 pub long : (s : Sort) (fs : List ℕ) → length (mark s ++ fs) ≡ length fs + 2
 long s fs = subst (λ m. length (m ++ fs) ≡ length fs + 2) (sym (by-letters s)) (omega arith)
+
+pub marked-long : (s : Sort) (bs : List ℕ) → Marked s bs → 2 ≤ length bs
+marked-long s bs m = omega (arith, ap length (m ∙ by-letters s), length-take 2 bs)
 
 -- what is read behind a mark is read of the whole
 pub behind-mark : (s : Sort) (bs : List ℕ) (r : Result (Record × RefT (List ℕ)) ReadFault) → 2 ≤ length bs → getD bs 0 0 ≡ getD (mark s) 0 0 → getD bs 1 0 ≡ getD (mark s) 1 0 → Front (mark s ++ take (length bs - 2) (drop 2 bs)) r → Front bs r

@@ -1,3 +1,4 @@
 pub mod Letters
 pub mod Format
 pub mod Refusals
+pub mod Reading

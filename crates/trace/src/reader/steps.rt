@@ -1,0 +1,57 @@
+// Records taken from a trace in turn.
+ghost use mathlib.Core.Path.{_≡_};
+ghost use lib.ListN.{length};
+ghost use Rattle.trace.specs.Reading.{Reads, Counts};
+use crate::fields::read_front;
+use crate::reader::Reader;
+use crate::records::Placed;
+use crate::records::Refusal;
+
+impl<'a> Reader<'a> {
+    // A reader at the start of a trace.
+    pub fn new(trace: &'a [u8]) -> Reader<'a>
+        ensures trace { λ r. ⌜ now (r .trace) ≡ now (trace .entry) ⌝ }
+        ensures start { λ r. ⌜ r .at ≡ 0 ⌝ }
+    {
+        Reader { trace, at: 0 }
+    }
+
+    // The place of the next record.
+    pub fn position(&self) -> usize
+        ensures { λ r. ⌜ r ≡ now (self .entry) .at ⌝ }
+    {
+        self.at
+    }
+
+    // The next record with its place, or that the trace has ended. After a refusal the reader stays at that record.
+    pub fn next_record(&mut self) -> Result<Option<Placed<'a>>, Refusal>
+        ensures trace { λ _. ⌜ now (self .exit) .trace ≡ now (self .entry) .trace ⌝ }
+        ensures reads { λ r. ⌜ Reads (now (now (self .entry) .trace)) (now (self .entry) .at) r (now (self .exit) .at) ⌝ }
+    {
+        let at = self.at;
+        let trace = self.trace;
+        let rest = &trace[at..];
+        if rest.is_empty() {
+            return Ok(None);
+        }
+        match read_front(rest) {
+            Ok((record, behind)) => {
+                self.at = trace.len() - behind.len();
+                Ok(Some(Placed { at, record }))
+            }
+            Err(fault) => Err(Refusal { at, fault }),
+        }
+    }
+}
+
+// How many records a trace is, or the first refusal.
+pub fn count_records(trace: &[u8]) -> Result<usize, Refusal>
+    ensures { λ r. ⌜ Counts (now (trace .entry)) r ⌝ }
+{
+    let mut reader = Reader::new(trace);
+    let mut count = 0;
+    while let Some(_) = reader.next_record()? {
+        count += 1;
+    }
+    Ok(count)
+}
