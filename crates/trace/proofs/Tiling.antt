@@ -3,11 +3,14 @@ use mathlib.Core.Path.{_≡_, refl, sym, ap, subst, _∙_}
 use mathlib.Core.List.{List, [], _∷_, _++_}
 use Prim.Native.Nat.{ℕ, suc, _+_, _-_, _≤_, _<_}
 use native.Mathlib.Omega.{arith}
+use denote.Ref.{now}
 use lib.ListN.{length, drop, length-append, length-drop}
 use Rattle.std.specs.declared.option.Option.{Option}
+use Rattle.std.specs.declared.option.Option.the-variants.{Some, None}
 use Rattle.std.specs.declared.result.Result.{Result}
 use Rattle.std.specs.declared.result.Result.the-variants.{Ok, Err}
-use Rattle.std.proofs.shelf.Lists.{drop-drop, drop-at}
+use Rattle.std.proofs.shelf.Lists.{drop-drop, drop-at, length-push}
+use Rattle.trace.specs.declared.reader.Reader.{Reader}
 use Rattle.trace.specs.declared.records.Placed.{Placed}
 use Rattle.trace.specs.declared.records.Refusal.{Refusal}
 use Rattle.trace.specs.Format.{bytes, Settable}
@@ -31,10 +34,6 @@ stands trace p behind h e ok =
       grows = omega (arith, some-bytes (p .record));
       within = omega arith;
     }
-
--- an answer stays right where the trace and the answer have other names
-pub renamed : (at next : ℕ) {t u : List ℕ} {a b : Result (Option Placed) Refusal} → t ≡ u → a ≡ b → Answers t at a next → Answers u at b next
-renamed at next {t = t} {b = b} same is h = subst (λ x. Answers x at b next) same (subst (λ x. Answers t at x next) is h)
 
 -- reading goes no further: no record stands there
 abbrev Halts : List ℕ → ℕ → Type 0
@@ -76,9 +75,34 @@ module _ (trace : List ℕ) where
   pub counts : (ps : List Placed) (a : Result ℕ Refusal) → Parses trace ps a → Counts trace a
   counts ps a right = record { records = ps; right = right; only = λ qs b other. one-count qs ps b a other right }
 
-  -- how reading ends where the reader no longer gives a record
-  pub ended : {ps : List Placed} {at n : ℕ} → Tiles trace 0 ps at → length ps ≡ n → at ≡ length trace → Parses trace ps (Ok n)
-  ended {ps} t count e = (subst (Tiles trace 0 ps) e t, count)
+-- a reader of a trace has given the records ps, so many
+pub record Passed (trace : List ℕ) (r : Reader) (count : ℕ) (ps : List Placed) : Type 0 where
+  pub same : r .trace .now ≡ trace
+  pub few : count ≤ r .at
+  pub tiles : Tiles trace 0 ps (r .at)
+  pub counted : length ps ≡ count
 
-  pub refused : {ps : List Placed} {at : ℕ} (x : Refusal) → Tiles trace 0 ps at → x .at ≡ at → Refused (x .fault) (drop at trace) → Parses trace ps (Err x)
-  refused {ps} x t e h = (subst (Tiles trace 0 ps) (sym e) t, subst (λ k. Refused (x .fault) (drop k trace)) (sym e) h)
+pub passed-none : (trace : List ℕ) (r : Reader) → r .trace .now ≡ trace → r .at ≡ 0 → Passed trace r 0 []
+passed-none trace r same start = record { same = same; few = omega arith; tiles = subst (Tiles trace 0 []) (sym start) none; counted = refl }
+
+module _ {trace : List ℕ} {r : Reader} {count : ℕ} {ps : List Placed} (past : Passed trace r count ps) where
+  here : (a : Result (Option Placed) Refusal) (n : ℕ) → Answers (r .trace .now) (r .at) a n → Answers trace (r .at) a n
+  here a n h = subst (λ t. Answers t (r .at) a n) (past .same) h
+
+  pub passed-more : (s : Reader) (p : Placed) → s .trace ≡ r .trace → Answers (r .trace .now) (r .at) (Ok (Some p)) (s .at) → Passed trace s (count + 1) (ps ++ p ∷ [])
+  passed-more s p kept read =
+      let stands = here (Ok (Some p)) (s .at) read in
+      record {
+        same = ap now kept ∙ past .same;
+        few = omega (arith, stands .grows, past .few);
+        tiles = tiles-push (past .tiles) stands;
+        counted = length-push ps p ∙ ap (λ n. n + 1) (past .counted);
+      }
+
+  pub passed-end : (n : ℕ) → Answers (r .trace .now) (r .at) (Ok None) n → Parses trace ps (Ok count)
+  passed-end n read = (subst (Tiles trace 0 ps) (here (Ok None) n read .0) (past .tiles), past .counted)
+
+  pub passed-refused : (x : Refusal) (n : ℕ) → Answers (r .trace .now) (r .at) (Err x) n → Parses trace ps (Err x)
+  passed-refused x n read =
+      let refused = here (Err x) n read in
+      (subst (Tiles trace 0 ps) (sym (refused .0)) (past .tiles), subst (λ k. Refused (x .fault) (drop k trace)) (sym (refused .0)) (refused .1))
