@@ -96,14 +96,15 @@ fn all_lines(heap: Global, trace: &[u8]) -> Result<String, AllocError>
     let mut count = 0;
     let mut reader = Reader::new(trace);
     loop {
-        match reader.next_record() {
-            Ok(Some(placed)) => {
-                text = with_line(text, record_line(heap, placed)?)?;
-                count += 1;
-            }
-            Ok(None) => return with_line(text, count_line(heap, count)?),
+        let next = match reader.next_record() {
+            Ok(next) => next,
             Err(refusal) => return with_line(text, refusal_line(heap, refusal)?),
-        }
+        };
+        let Some(placed) = next else {
+            return with_line(text, count_line(heap, count)?);
+        };
+        text = with_line(text, record_line(heap, placed)?)?;
+        count += 1;
     }
 }
 
