@@ -2,10 +2,9 @@
 use mathlib.Core.Path.{_≡_, refl, sym, ap, _∙_}
 use mathlib.Core.Bool.{cond}
 use mathlib.Core.List.{List, [], _∷_, _++_}
-use Prim.Native.Nat.{ℕ, _+_, _/_, _%_, _^_}
+use Prim.Native.Nat.{ℕ, _+_}
 use native.Mathlib.Omega.{arith}
 use lib.Chars.{codes}
-use lib.Dec.{eqb}
 use lib.Utf8.{encode}
 use Rattle.std.specs.Iters.{counting}
 use Rattle.std.specs.Joined.{joined}
@@ -19,14 +18,14 @@ use Rattle.trace.specs.declared.letters.CriterionChoice.the-variants.{Levels, R
 use Rattle.trace.specs.declared.letters.Level.{Level}
 use Rattle.trace.specs.declared.letters.Level.the-variants.{Weak, Basic, Monotonic, Peer, Causal, Complete}
 use Rattle.trace.specs.Letters as letter
-use Rattle.listing.specs.Words.{names-below}
+use Rattle.listing.specs.Words.{named, names-below}
 
 counting-more : (n : ℕ) → counting 0 (n + 1) ≡ counting 0 n ++ n ∷ []
 counting-more n = sym (map-id _) ∙ map-counting-more (λ i. i) 0 n n (omega arith) ∙ ap (λ l. l ++ n ∷ []) (map-id _)
 
-pub names-more : (n after : ℕ) → names-below (n + 1) after ≡ names-below n after ++ cond (eqb (after / 2 ^ n % 2) 1) (codes " " ++ decimal n) []
+pub names-more : (n after : ℕ) → names-below (n + 1) after ≡ names-below n after ++ cond (named after n) (codes " " ++ decimal n) []
 names-more n after =
-    let name = λ (i : ℕ). cond (eqb (after / 2 ^ i % 2) 1) (codes " " ++ decimal i) [] in
+    let name = λ (i : ℕ). cond (named after i) (codes " " ++ decimal i) [] in
     ap (joined name) (counting-more n) ∙ sym (joined-more name [] (counting 0 n) n)
 
 -- a letter is one byte of text

@@ -26,9 +26,13 @@ answer tag value =
     (cond (eqb tag 2 && eqb value 0) (codes "false")
     (cond (eqb tag 2 && eqb value 1) (codes "true") (codes "tag " ++ (decimal tag ++ (codes " value " ++ decimal value))))))
 
--- the operations below n that an after field names, each behind a space: bit i, worth 2 to the power i, names operation i
+-- an after field names operation i by bit i, worth 2 to the power i
+abbrev pub named : ℕ → ℕ → Bool
+named after i = eqb (after / 2 ^ i % 2) 1
+
+-- the operations below n that an after field names, each behind a space
 abbrev pub names-below : ℕ → ℕ → List ℕ
-names-below n after = joined (λ i. cond (eqb (after / 2 ^ i % 2) 1) (codes " " ++ decimal i) []) (counting 0 n)
+names-below n after = joined (λ i. cond (named after i) (codes " " ++ decimal i) []) (counting 0 n)
 
 unfoldable pub names : ℕ → List ℕ
 names after = cond (eqb after 0) (codes " none") (names-below 16 after)

@@ -68,7 +68,11 @@ fn reason_words(fault: ReadFault) -> &'static str
 fn count_line(heap: Global, count: usize) -> Result<String, AllocError>
     ensures { λ r. ⌜ made r (λ s. string-bytes s ≡ count-text count) ⌝ }
 {
-    if count == 1 { String::from_str(heap, "1 record\n") } else { format!(heap, "{count} records\n") }
+    if count == 1 {
+        String::from_str(heap, "1 record\n")
+    } else {
+        format!(heap, "{count} records\n")
+    }
 }
 
 fn refusal_line(heap: Global, refusal: Refusal) -> Result<String, AllocError>

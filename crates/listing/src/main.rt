@@ -1,10 +1,10 @@
 // Lists a trace from standard input in readable lines, up to its end or to the first record that is refused.
+use crate::lines::ListFaultError;
 use lines::LONGEST;
 use lines::list;
 use std::error::AnyError;
 use std::io::Read;
 use trace::count_records;
-use crate::lines::ListFaultError;
 
 mod lines;
 mod words;
@@ -19,5 +19,9 @@ fn run(rt: &LibcRuntime) -> Result<bool, AnyError> {
 }
 
 fn main(rt: LibcRuntime) -> Result<(), AnyError> {
-    if rt.report(run(&rt))? { Ok(()) } else { Err("the trace was refused".into()) }
+    if rt.report(run(&rt))? {
+        Ok(())
+    } else {
+        Err("the trace was refused".into())
+    }
 }

@@ -4,7 +4,7 @@ ghost use mathlib.Core.List.{_++_};
 ghost use Prim.Native.Nat.{_<_};
 ghost use Rattle.std.specs.Of.String.{string-bytes};
 ghost use Rattle.std.specs.Vec.{made};
-ghost use Rattle.listing.specs.Words.{answer, names, printing, hex, numbered, escaped, quoted, object-name, criterion-name, level-name};
+ghost use Rattle.listing.specs.Words.{answer, named, names, printing, hex, numbered, escaped, quoted, object-name, criterion-name, level-name};
 ghost use Rattle.listing.specs.Words.{call-text, reply-text, object-text, criterion-text, level-text, note-text, words};
 use std::alloc::AllocError;
 use std::alloc::Global;
@@ -26,6 +26,14 @@ fn answer_words(heap: Global, tag: u8, value: u16) -> Result<String, AllocError>
     }
 }
 
+// Whether an after field names an operation: bit i, worth 2 to the power i, names operation i.
+fn names_operation(after: u16, i: u16) -> bool
+    requires { ⌜ i < 16 ⌝ }
+    ensures { λ r. ⌜ r ≡ named after i ⌝ }
+{
+    (after >> i) % 2 == 1
+}
+
 // The operations that an after field names, each behind a space.
 fn after_names(heap: Global, after: u16) -> Result<String, AllocError>
     ensures { λ r. ⌜ made r (λ s. string-bytes s ≡ names after) ⌝ }
@@ -35,7 +43,7 @@ fn after_names(heap: Global, after: u16) -> Result<String, AllocError>
     }
     let mut names = String::new(heap);
     for i in 0..16u16 {
-        if (after >> i) % 2 == 1 {
+        if names_operation(after, i) {
             names.push_str(format!(heap, " {i}")?.as_str())?;
         }
     }
@@ -55,7 +63,11 @@ fn hex_digit(n: u8) -> char
     ensures value { λ r. ⌜ r ≡ hex n ⌝ }
     ensures ascii { λ r. ⌜ r < 128 ⌝ }
 {
-    if n < 10 { (b'0' + n) as char } else { (b'a' + (n - 10)) as char }
+    if n < 10 {
+        (b'0' + n) as char
+    } else {
+        (b'a' + (n - 10)) as char
+    }
 }
 
 // The number of a byte, behind the text so far.
@@ -72,7 +84,11 @@ fn push_number(quote: &mut String, byte: u8) -> Result<(), AllocError>
 fn push_escaped(quote: &mut String, byte: u8) -> Result<(), AllocError>
     ensures { λ r. ⌜ made r (λ _. string-bytes (now (quote .exit)) ≡ string-bytes (now (quote .entry)) ++ escaped byte) ⌝ }
 {
-    if prints(byte) { quote.push(byte as char) } else { push_number(quote, byte) }
+    if prints(byte) {
+        quote.push(byte as char)
+    } else {
+        push_number(quote, byte)
+    }
 }
 
 // A note's text between quotation marks.
@@ -120,11 +136,21 @@ fn level_name(level: Level) -> &'static str
     }
 }
 
-fn call_words(heap: Global, thread: u8, kind: u8, a: u16, b: u16, after: u16) -> Result<String, AllocError>
+fn call_words(
+    heap: Global,
+    thread: u8,
+    kind: u8,
+    a: u16,
+    b: u16,
+    after: u16,
+) -> Result<String, AllocError>
     ensures { λ r. ⌜ made r (λ s. string-bytes s ≡ call-text thread kind a b after) ⌝ }
 {
     let names = after_names(heap, after)?;
-    format!(heap, "call: thread {thread}, kind {kind}, a {a}, b {b}, after{names}")
+    format!(
+        heap,
+        "call: thread {thread}, kind {kind}, a {a}, b {b}, after{names}"
+    )
 }
 
 fn reply_words(heap: Global, thread: u8, tag: u8, value: u16) -> Result<String, AllocError>
@@ -170,7 +196,13 @@ pub(crate) fn record_words(heap: Global, record: Record) -> Result<String, Alloc
     ensures { λ r. ⌜ made r (λ s. string-bytes s ≡ words («record» .entry)) ⌝ }
 {
     match record {
-        Record::Call { thread, kind, a, b, after } => call_words(heap, thread, kind, a, b, after),
+        Record::Call {
+            thread,
+            kind,
+            a,
+            b,
+            after,
+        } => call_words(heap, thread, kind, a, b, after),
         Record::Reply { thread, tag, value } => reply_words(heap, thread, tag, value),
         Record::Object(choice) => object_words(heap, choice),
         Record::Criterion(choice) => criterion_words(heap, choice),

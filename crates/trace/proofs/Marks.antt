@@ -52,7 +52,7 @@ marked-long s bs m = omega (arith, ap length (m ∙ by-letters s), length-take 2
 pub behind-mark : (s : Sort) (bs : List ℕ) (r : Result (Record × RefT (List ℕ)) ReadFault) → 2 ≤ length bs → getD bs 0 0 ≡ getD (mark s) 0 0 → getD bs 1 0 ≡ getD (mark s) 1 0 → Front (mark s ++ take (length bs - 2) (drop 2 bs)) r → Front bs r
 behind-mark s bs r h e0 e1 front =
     let whole : mark s ++ take (length bs - 2) (drop 2 bs) ≡ bs =
-        (ap (λ m. m ++ take (length bs - 2) (drop 2 bs)) (by-letters s) ∙ (λ i. sym e0 i ∷ sym e1 i ∷ take (length bs - 2) (drop 2 bs))) ∙ sym (by-place 2 bs h) in
+    (ap (λ m. m ++ take (length bs - 2) (drop 2 bs)) (by-letters s) ∙ (λ i. sym e0 i ∷ sym e1 i ∷ take (length bs - 2) (drop 2 bs))) ∙ sym (by-place 2 bs h) in
     subst (λ b. Front b r) whole front
 
 module _ (s : Sort) (fs : List ℕ) where

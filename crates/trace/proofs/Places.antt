@@ -1,9 +1,7 @@
--- Bytes that are read one by one, and numbers made of two.
+-- Bytes that are read one by one.
 use mathlib.Core.Path.{_≡_, sym, ap, _∙_}
 use mathlib.Core.List.{List, _∷_, _++_, map}
-use Prim.Native.Nat.{ℕ, _+_, _-_, _*_, _/_, _%_, _≤_, _<_}
-use native.Mathlib.Nat.{sub-zero}
-use lib.Arith.{digits-div, digits-mod}
+use Prim.Native.Nat.{ℕ, _-_, _≤_}
 use lib.ListN.{length, getD, take, drop, take-append-drop}
 use Rattle.std.specs.Iters.{counting}
 use Rattle.std.proofs.shelf.Counted.{fill-by-all}
@@ -15,14 +13,9 @@ by-place n bs h =
     let front = fill-by-all (λ i. getD bs i 0) (take n bs) n 0 (length-take-le n bs h) (λ k l. getD-take n bs k 0 l) in
     sym (take-append-drop n bs) ∙ (λ i. front i ++ sym (take-rest bs n) i)
 
--- the two bytes of a number, high byte first
-pub high : (n h l : ℕ) → n ≡ h * 256 + l → l < 256 → n / 256 ≡ h
-high n h l e lt = ap (λ x. x / 256) e ∙ digits-div h lt
-
-pub low : (n h l : ℕ) → n ≡ h * 256 + l → l < 256 → n % 256 ≡ l
-low n h l e lt = ap (λ x. x % 256) e ∙ digits-mod h lt
-
--- the text of n bytes that a note begins with
-pub cut : (n : ℕ) (rest : List ℕ) → n ≤ length rest → n ∷ rest ≡ length (take (n - 0) rest) ∷ (take (n - 0) rest ++ take (length rest - n) (drop n rest))
-cut n rest h =
-    simp (sub-zero, take-rest, length-take-le n rest h, take-append-drop)
+-- a length byte and the bytes behind it, cut where the text of that length ends
+pub cut-text : (n : ℕ) (bs : List ℕ) {text rest : List ℕ} → n ≤ length bs → text ≡ take n bs → rest ≡ drop n bs → n ∷ bs ≡ length text ∷ (text ++ rest)
+cut-text n bs {text} h t r =
+    let long : length text ≡ n = ap length t ∙ length-take-le n bs h in
+    let joined = take-append-drop n bs in
+    λ i. sym long i ∷ (sym joined ∙ (λ j. sym t j ++ sym r j)) i

@@ -25,7 +25,7 @@ stands trace p behind h e ok =
     let left : length trace - p .at ≡ length own + length behind = sym (length-drop (p .at) trace) ∙ ap length e ∙ length-append own behind in
     let next : length trace - length behind ≡ p .at + length own = omega (arith, h) in
     let rest : drop (length trace - length behind) trace ≡ behind =
-        ap (λ n. drop n trace) next ∙ sym (drop-drop (length own) (p .at) trace) ∙ ap (drop (length own)) e ∙ drop-at own behind _ refl in
+    ap (λ n. drop n trace) next ∙ sym (drop-drop (length own) (p .at) trace) ∙ ap (drop (length own)) e ∙ drop-at own behind _ refl in
     record {
       place = refl;
       reads = e ∙ ap (λ b. own ++ b) (sym rest);

@@ -14,22 +14,22 @@ use Rattle.trace.specs.declared.letters.Level.{Level}
 use Rattle.trace.specs.declared.letters.Level.the-variants.{Weak, Basic, Monotonic, Peer, Causal, Complete}
 
 abbrev pub object : ObjectChoice → ℕ
-object Map = 77 -- M
-object Queue = 81 -- Q
+object Map = 77  -- M
+object Queue = 81  -- Q
 
 abbrev pub criterion : CriterionChoice → ℕ
-criterion Levels = 108 -- l
-criterion ReadMyWrites = 114 -- r
-criterion MonotonicReads = 103 -- g
-criterion CausalConvergence = 118 -- v
+criterion Levels = 108  -- l
+criterion ReadMyWrites = 114  -- r
+criterion MonotonicReads = 103  -- g
+criterion CausalConvergence = 118  -- v
 
 abbrev pub level : Level → ℕ
-level Weak = 119 -- w
-level Basic = 98 -- b
-level Monotonic = 109 -- m
-level Peer = 112 -- p
-level Causal = 99 -- c
-level Complete = 97 -- a
+level Weak = 119  -- w
+level Basic = 98  -- b
+level Monotonic = 109  -- m
+level Peer = 112  -- p
+level Causal = 99  -- c
+level Complete = 97  -- a
 
 -- what a letter names among the choices that `letter` gives their letters: the choice of that letter, or none where no choice has it
 abbrev pub Named : {X : Type 0} → (X → ℕ) → ℕ → Option X → Type 0

@@ -1,7 +1,9 @@
 // One record from the front of some bytes: its mark, then its fields, then the rest.
 ghost use mathlib.Core.List.{_++_};
-ghost use Prim.Native.Nat.{_<_};
-ghost use lib.ListN.{length};
+ghost use mathlib.Core.Path.{_≡_};
+ghost use Prim.Native.Nat.{_/_, _%_, _≤_, _<_};
+ghost use Rattle.std.specs.Options.{Cases};
+ghost use lib.ListN.{length, take, drop};
 ghost use Rattle.trace.specs.Format.{mark, call, reply, object, criterion, level, note};
 ghost use Rattle.trace.specs.Refusals.{Front};
 use crate::letters::CriterionChoice;
@@ -11,10 +13,15 @@ use crate::records::ReadFault;
 use crate::records::Record;
 
 const CALL: [u8; 2] = *b"CA";
+
 const REPLY: [u8; 2] = *b"RE";
+
 const OBJECT: [u8; 2] = *b"OB";
+
 const CRITERION: [u8; 2] = *b"RU";
+
 const LEVEL: [u8; 2] = *b"LV";
+
 const NOTE: [u8; 2] = *b"NO";
 
 // The highest call kind that has a level of its own.
@@ -23,16 +30,33 @@ const LAST_KIND: u8 = 7;
 // A record from the front, and the bytes behind it.
 type Taken<'a> = Result<(Record<'a>, &'a [u8]), ReadFault>;
 
+// A number of two bytes, high byte first.
+fn word(high: u8, low: u8) -> u16
+    ensures high { λ r. ⌜ r / 256 ≡ high ⌝ }
+    ensures low { λ r. ⌜ r % 256 ≡ low ⌝ }
+{
+    u16::from_be_bytes([high, low])
+}
+
 fn read_call<'a>(fields: &'a [u8]) -> Taken<'a>
     ensures { λ r. ⌜ Front (mark call ++ now (fields .entry)) r ⌝ }
 {
     let [thread, kind, a1, a0, b1, b0, after1, after0, rest @ ..] = fields else {
         return Err(ReadFault::PastEnd);
     };
-    let a = u16::from_be_bytes([*a1, *a0]);
-    let b = u16::from_be_bytes([*b1, *b0]);
-    let after = u16::from_be_bytes([*after1, *after0]);
-    Ok((Record::Call { thread: *thread, kind: *kind, a, b, after }, rest))
+    let a = word(*a1, *a0);
+    let b = word(*b1, *b0);
+    let after = word(*after1, *after0);
+    Ok((
+        Record::Call {
+            thread: *thread,
+            kind: *kind,
+            a,
+            b,
+            after,
+        },
+        rest,
+    ))
 }
 
 fn read_reply<'a>(fields: &'a [u8]) -> Taken<'a>
@@ -41,8 +65,15 @@ fn read_reply<'a>(fields: &'a [u8]) -> Taken<'a>
     let [thread, tag, value1, value0, rest @ ..] = fields else {
         return Err(ReadFault::PastEnd);
     };
-    let value = u16::from_be_bytes([*value1, *value0]);
-    Ok((Record::Reply { thread: *thread, tag: *tag, value }, rest))
+    let value = word(*value1, *value0);
+    Ok((
+        Record::Reply {
+            thread: *thread,
+            tag: *tag,
+            value,
+        },
+        rest,
+    ))
 }
 
 fn read_object<'a>(fields: &'a [u8]) -> Taken<'a>
@@ -84,17 +115,23 @@ fn read_level<'a>(fields: &'a [u8]) -> Taken<'a>
     }
 }
 
+// The first bytes, as many as a note's length says, and the rest.
+fn split_text(size: u8, bytes: &[u8]) -> Option<(&[u8], &[u8])>
+    ensures { λ r. ⌜ Cases r (length (now (bytes .entry)) < size) (λ p. (size ≤ length (now (bytes .entry))) × (now (p .0) ≡ take size (now (bytes .entry))) × (now (p .1) ≡ drop size (now (bytes .entry)))) ⌝ }
+{
+    bytes.split_at_checked(size as usize)
+}
+
 fn read_note<'a>(fields: &'a [u8]) -> Taken<'a>
     ensures { λ r. ⌜ Front (mark note ++ now (fields .entry)) r ⌝ }
 {
-    let [size, rest @ ..] = fields else {
+    let [size, bytes @ ..] = fields else {
         return Err(ReadFault::PastEnd);
     };
-    let size = *size as usize;
-    if size > rest.len() {
-        return Err(ReadFault::PastEnd);
+    match split_text(*size, bytes) {
+        Some((text, rest)) => Ok((Record::Note(text), rest)),
+        None => Err(ReadFault::PastEnd),
     }
-    Ok((Record::Note(&rest[0..size]), &rest[size..]))
 }
 
 // The record at the front of some bytes.

@@ -11,11 +11,24 @@ use crate::letters::ObjectChoiceDebug;
 // One record. A note borrows its text from the trace.
 #[derive(Clone, Copy, Debug)]
 pub enum Record<'a> {
-    Call { thread: u8, kind: u8, a: u16, b: u16, after: u16 },
-    Reply { thread: u8, tag: u8, value: u16 },
+    Call {
+        thread: u8,
+        kind: u8,
+        a: u16,
+        b: u16,
+        after: u16,
+    },
+    Reply {
+        thread: u8,
+        tag: u8,
+        value: u16,
+    },
     Object(ObjectChoice),
     Criterion(CriterionChoice),
-    Level { kind: u8, level: Level },
+    Level {
+        kind: u8,
+        level: Level,
+    },
     Note(&'a [u8]),
 }
 

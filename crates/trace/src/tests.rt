@@ -36,7 +36,14 @@ fn fault(bytes: &[u8]) -> Option<ReadFault> {
 // The length of the note at the start of some bytes.
 fn note_len(bytes: &[u8]) -> Option<usize> {
     match first(bytes) {
-        Ok(Some(Placed { at: _, record: Record::Note(text) })) => Some(text.len()),
+        Ok(
+            Some(
+                Placed {
+                    at: _,
+                    record: Record::Note(text),
+                },
+            ),
+        ) => Some(text.len()),
         _ => None,
     }
 }
@@ -59,15 +66,40 @@ fn check_cuts(record: &[u8]) -> Result<(), Fail> {
 fn calls_and_replies() -> Result<(), Fail> {
     check(matches!(
         first(b"CA\x01\x03\x12\x34\xab\xcd\x00\x05"),
-        Ok(Some(Placed { at: 0, record: Record::Call { thread: 1, kind: 3, a: 0x1234, b: 0xabcd, after: 5 } }))
+        Ok(Some(Placed {
+            at: 0,
+            record: Record::Call {
+                thread: 1,
+                kind: 3,
+                a: 0x1234,
+                b: 0xabcd,
+                after: 5
+            }
+        }))
     ))?;
     check(matches!(
         first(b"CA\xff\xff\xff\xff\xff\xff\xff\xffCA"),
-        Ok(Some(Placed { at: 0, record: Record::Call { thread: 255, kind: 255, a: 65535, b: 65535, after: 65535 } }))
+        Ok(Some(Placed {
+            at: 0,
+            record: Record::Call {
+                thread: 255,
+                kind: 255,
+                a: 65535,
+                b: 65535,
+                after: 65535
+            }
+        }))
     ))?;
     check(matches!(
         first(b"RE\x05\x02\x00\x01"),
-        Ok(Some(Placed { at: 0, record: Record::Reply { thread: 5, tag: 2, value: 1 } }))
+        Ok(Some(Placed {
+            at: 0,
+            record: Record::Reply {
+                thread: 5,
+                tag: 2,
+                value: 1
+            }
+        }))
     ))
 }
 
@@ -75,20 +107,56 @@ fn calls_and_replies() -> Result<(), Fail> {
 fn after_bytes_01_02_name_8_and_1() -> Result<(), Fail> {
     check(matches!(
         first(b"CA\x00\x00\x00\x00\x00\x00\x01\x02"),
-        Ok(Some(Placed { at: 0, record: Record::Call { thread: 0, kind: 0, a: 0, b: 0, after: 0b1_0000_0010 } }))
+        Ok(Some(Placed {
+            at: 0,
+            record: Record::Call {
+                thread: 0,
+                kind: 0,
+                a: 0,
+                b: 0,
+                after: 0b1_0000_0010
+            }
+        }))
     ))
 }
 
 #[test]
 fn choices_and_levels() -> Result<(), Fail> {
-    check(matches!(first(b"OBQ"), Ok(Some(Placed { at: 0, record: Record::Object(ObjectChoice::Queue) }))))?;
-    check(matches!(first(b"RUg"), Ok(Some(Placed { at: 0, record: Record::Criterion(CriterionChoice::MonotonicReads) }))))?;
-    check(matches!(first(b"LV\x07c"), Ok(Some(Placed { at: 0, record: Record::Level { kind: 7, level: Level::Causal } }))))
+    check(matches!(
+        first(b"OBQ"),
+        Ok(Some(Placed {
+            at: 0,
+            record: Record::Object(ObjectChoice::Queue)
+        }))
+    ))?;
+    check(matches!(
+        first(b"RUg"),
+        Ok(Some(Placed {
+            at: 0,
+            record: Record::Criterion(CriterionChoice::MonotonicReads)
+        }))
+    ))?;
+    check(matches!(
+        first(b"LV\x07c"),
+        Ok(Some(Placed {
+            at: 0,
+            record: Record::Level {
+                kind: 7,
+                level: Level::Causal
+            }
+        }))
+    ))
 }
 
 #[test]
 fn notes() -> Result<(), Fail> {
-    check(matches!(first(b"NO\x02hi!"), Ok(Some(Placed { at: 0, record: Record::Note(b"hi") }))))?;
+    check(matches!(
+        first(b"NO\x02hi!"),
+        Ok(Some(Placed {
+            at: 0,
+            record: Record::Note(b"hi")
+        }))
+    ))?;
     check_eq(note_len(b"NO\x00"), Some(0))?;
     let mut long = [b'x'; 258];
     long[0] = b'N';
@@ -112,7 +180,10 @@ fn cut_records() -> Result<(), Fail> {
 fn refusals_in_order() -> Result<(), Fail> {
     check_eq(fault(b"X"), Some(ReadFault::OneByteLeft))?;
     check_eq(fault(b"CB"), Some(ReadFault::UnknownMark))?;
-    check_eq(fault(b"ca\x00\x00\x00\x00\x00\x00\x00\x00"), Some(ReadFault::UnknownMark))?;
+    check_eq(
+        fault(b"ca\x00\x00\x00\x00\x00\x00\x00\x00"),
+        Some(ReadFault::UnknownMark),
+    )?;
     check_eq(fault(b"LV\x08"), Some(ReadFault::PastEnd))?;
     check_eq(fault(b"LV\x08a"), Some(ReadFault::BadLetter))?;
     check_eq(fault(b"LV\x07a"), None)?;
@@ -159,9 +230,21 @@ fn each_letter_and_no_other() -> Result<(), Fail> {
 #[test]
 fn stays_at_a_refused_record() -> Result<(), Fail> {
     let mut reader = Reader::new(b"OBMLV\x08aOBQ");
-    check(matches!(reader.next_record(), Ok(Some(Placed { at: 0, record: Record::Object(ObjectChoice::Map) }))))?;
+    check(matches!(
+        reader.next_record(),
+        Ok(Some(Placed {
+            at: 0,
+            record: Record::Object(ObjectChoice::Map)
+        }))
+    ))?;
     for _ in 0..3 {
-        check(matches!(reader.next_record(), Err(Refusal { at: 3, fault: ReadFault::BadLetter })))?;
+        check(matches!(
+            reader.next_record(),
+            Err(Refusal {
+                at: 3,
+                fault: ReadFault::BadLetter
+            })
+        ))?;
         check_eq(reader.position(), 3)?;
     }
     Ok(())
@@ -171,6 +254,18 @@ fn stays_at_a_refused_record() -> Result<(), Fail> {
 fn whole_traces() -> Result<(), Fail> {
     check_eq(count_records(b""), Ok(0))?;
     check_eq(count_records(b"OBMRUlNO\x00"), Ok(3))?;
-    check_eq(count_records(b"OBMRUlN"), Err(Refusal { at: 6, fault: ReadFault::OneByteLeft }))?;
-    check_eq(count_records(b"OBMOBXOBQ"), Err(Refusal { at: 3, fault: ReadFault::BadLetter }))
+    check_eq(
+        count_records(b"OBMRUlN"),
+        Err(Refusal {
+            at: 6,
+            fault: ReadFault::OneByteLeft,
+        }),
+    )?;
+    check_eq(
+        count_records(b"OBMOBXOBQ"),
+        Err(Refusal {
+            at: 3,
+            fault: ReadFault::BadLetter,
+        }),
+    )
 }

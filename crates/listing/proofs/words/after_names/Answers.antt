@@ -5,7 +5,7 @@ use Rattle.std.proofs.shelf.Tests.{cond-false, ne-eqb}
 use Rattle.listing.specs.Words.{names, names-below}
 use Rattle.listing.proofs.Names.{names-more}
 use Rattle.listing.proofs.words.after_names.Needs as need
-use Rattle.listing.proofs.words.after_names.Needs.{then-after-i-eq1·in-Continue-format·in-Continue-push-str, else-after-i-eq1}
+use Rattle.listing.proofs.words.after_names.Needs.{then-names-operation·in-Continue-format·in-Continue-push-str, else-names-operation}
 
 pub returns-then-after-eq0 : need.returns-then-after-eq0
 unfolding names
@@ -13,9 +13,9 @@ returns-then-after-eq0 c = search needs
 
 pub loop-i-again : need.loop-i-again
 loop-i-again c =
-    elim (c .if-after-i-eq1 .came) [
-      then-after-i-eq1·in-Continue-format·in-Continue-push-str w ↦ search (needs, names-more)
-    | else-after-i-eq1 w ↦ search (needs, names-more)
+    elim (c .if-names-operation .came) [
+      | then-names-operation·in-Continue-format·in-Continue-push-str w ↦ search (needs, names-more)
+      | else-names-operation w ↦ search (needs, names-more)
     ]
 
 pub returns : need.returns

@@ -4,7 +4,7 @@ use borrow.Author.Tests.{ltb-true, ltb-false}
 use lib.ListN.{length}
 use Rattle.trace.specs.Format.{reply}
 use Rattle.trace.proofs.Marks.{past-end}
-use Rattle.trace.proofs.Places.{by-place, high, low}
+use Rattle.trace.proofs.Places.{by-place}
 use Rattle.trace.proofs.fields.read_reply.Needs as need
 
 pub returns-in-rest : need.returns-in-rest
@@ -14,6 +14,4 @@ pub returns : need.returns
 returns c =
     let whole : 4 ≤ length (c .args .fields .now) = omega (arith, ltb-false) in
     let parts = by-place 4 _ whole in
-    let v1 = high _ _ _ (c .from-be-bytes-value .ensures) (omega arith) in
-    let v0 = low _ _ _ (c .from-be-bytes-value .ensures) (omega arith) in
     (cc, tt)

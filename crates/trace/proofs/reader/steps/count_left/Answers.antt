@@ -1,13 +1,13 @@
-use mathlib.Core.Path.{subst}
+use mathlib.Core.Path.{refl, subst}
 use mathlib.Core.List.{[]}
 use Rattle.std.specs.declared.result.Result.the-variants.{Ok}
 use Rattle.std.proofs.shelf.Results.{err-from-errBy}
 use Rattle.trace.specs.Reading.{Answers}
 use Rattle.trace.proofs.Tiling.{counts, passed-none, passed-more, passed-end, passed-refused}
-use Rattle.trace.proofs.reader.steps.count_records.Needs as need
+use Rattle.trace.proofs.reader.steps.count_left.Needs as need
 
 pub loop-count-holds : need.loop-count-holds
-loop-count-holds c = ([], passed-none _ _ (c .new-reader .ensures .trace) (c .new-reader .ensures .start))
+loop-count-holds c = ([], passed-none _ _ refl (c .pre))
 
 pub returns-in-Break-next-record : need.returns-in-Break-next-record
 returns-in-Break-next-record c =
