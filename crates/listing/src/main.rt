@@ -7,6 +7,8 @@ use std::io::Read;
 use trace::count_records;
 
 mod lines;
+#[cfg(test)]
+mod tests;
 mod words;
 
 // Prints the listing of standard input; whether all of it was read as records.

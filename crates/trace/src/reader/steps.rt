@@ -30,7 +30,10 @@ impl<'a> Reader<'a> {
         ensures reads { λ r. ⌜ Reads (now (now (self .entry) .trace)) (now (self .entry) .at) r (now (self .exit) .at) ⌝ }
     {
         let (answer, next) = read_at(self.trace, self.at);
-        *self = Reader { trace: self.trace, at: next };
+        *self = Reader {
+            trace: self.trace,
+            at: next,
+        };
         answer
     }
 }
