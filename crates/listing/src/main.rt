@@ -1,6 +1,6 @@
 // Lists a trace from standard input in readable lines, up to its end or to the first record that is refused.
-use crate::lines::ListFaultError;
 use lines::LONGEST;
+use lines::ListFaultError;
 use lines::list;
 use std::error::AnyError;
 use std::io::Read;
@@ -21,9 +21,12 @@ fn run(rt: &LibcRuntime) -> Result<bool, AnyError> {
 }
 
 fn main(rt: LibcRuntime) -> Result<(), AnyError> {
-    if rt.report(run(&rt))? {
-        Ok(())
-    } else {
-        Err("the trace was refused".into())
+    match run(&rt) {
+        Ok(true) => Ok(()),
+        Ok(false) => Err("a record was refused".into()),
+        Err(error) => {
+            eprintln!(rt, "listing: {error}")?;
+            Err(error)
+        }
     }
 }

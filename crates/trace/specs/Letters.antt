@@ -1,9 +1,6 @@
 -- The letters of a trace: which byte, in ASCII, stands for which choice.
 use mathlib.Core.Path.{_≡_}
-use mathlib.Core.List.{List, [], _∷_}
 use Prim.Native.Nat.{ℕ}
-use lib.Chars.{codes}
-use lib.ListN.{getD}
 use Rattle.std.specs.Options.{Cases}
 use Rattle.std.specs.declared.option.Option.{Option}
 use Rattle.trace.specs.declared.letters.ObjectChoice.{ObjectChoice}
@@ -13,16 +10,19 @@ use Rattle.trace.specs.declared.letters.CriterionChoice.the-variants.{Levels, 
 use Rattle.trace.specs.declared.letters.Level.{Level}
 use Rattle.trace.specs.declared.letters.Level.the-variants.{Weak, Basic, Monotonic, Peer, Causal, Complete}
 
+-- the letter of each object
 abbrev pub object : ObjectChoice → ℕ
 object Map = 77  -- M
 object Queue = 81  -- Q
 
+-- the letter of each criterion
 abbrev pub criterion : CriterionChoice → ℕ
 criterion Levels = 108  -- l
 criterion ReadMyWrites = 114  -- r
 criterion MonotonicReads = 103  -- g
 criterion CausalConvergence = 118  -- v
 
+-- the letter of each level
 abbrev pub level : Level → ℕ
 level Weak = 119  -- w
 level Basic = 98  -- b
@@ -31,6 +31,6 @@ level Peer = 112  -- p
 level Causal = 99  -- c
 level Complete = 97  -- a
 
--- what a letter names among the choices that `letter` gives their letters: the choice of that letter, or none where no choice has it
+-- what a byte names: the choice that has it as its letter, or none where no choice has
 abbrev pub Named : {X : Type 0} → (X → ℕ) → ℕ → Option X → Type 0
 Named {X} letter b named = Cases named ((x : X) → letter x ≡ b → ⊥) (λ x. letter x ≡ b)

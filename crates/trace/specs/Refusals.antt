@@ -1,6 +1,6 @@
 -- When the front of some bytes is refused, and what is read from it otherwise.
 use mathlib.Core.Path.{_≡_}
-use mathlib.Core.List.{List, [], _∷_, _++_}
+use mathlib.Core.List.{List, _++_}
 use mathlib.Core.Logic.{_⊎_}
 use Prim.Native.Nat.{ℕ, _+_, _≤_, _<_}
 use lib.ListN.{length, getD, take}
@@ -14,7 +14,7 @@ use Rattle.trace.specs.declared.records.Record.{Record}
 use Rattle.trace.specs.declared.records.ReadFault.{ReadFault}
 use Rattle.trace.specs.declared.records.ReadFault.the-variants.{OneByteLeft, UnknownMark, PastEnd, BadLetter}
 use Rattle.trace.specs.Letters as letter
-use Rattle.trace.specs.Format.{Sort, call, reply, object, criterion, level, note, sort, mark, fields, bytes, Settable}
+use Rattle.trace.specs.Format.{Sort, call, reply, object, criterion, level, note, mark, bytes, Settable}
 
 -- the number of each refusal; the lower one is checked earlier
 abbrev pub number : ReadFault → ℕ

@@ -8,7 +8,7 @@ mod steps;
 pub use steps::count_records;
 
 // A trace and the place of the next record in it.
-#[derive(Clone, Copy, Debug)]
+#[derive(Debug, Drop)]
 pub struct Reader<'a> {
     trace: &'a [u8],
     at: usize,

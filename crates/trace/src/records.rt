@@ -8,9 +8,10 @@ use crate::letters::LevelDebug;
 use crate::letters::ObjectChoice;
 use crate::letters::ObjectChoiceDebug;
 
-// One record. A note borrows its text from the trace.
+// One record, with its fields as they stand in the trace.
 #[derive(Clone, Copy, Debug)]
 pub enum Record<'a> {
+    // A thread makes a call of some kind with arguments a and b, after the operations whose bits are set.
     Call {
         thread: u8,
         kind: u8,
@@ -18,17 +19,22 @@ pub enum Record<'a> {
         b: u16,
         after: u16,
     },
+    // A thread gets the reply to its call.
     Reply {
         thread: u8,
         tag: u8,
         value: u16,
     },
+    // The calls are on this object.
     Object(ObjectChoice),
+    // The check is against this criterion.
     Criterion(CriterionChoice),
+    // Calls of this kind have this level.
     Level {
         kind: u8,
         level: Level,
     },
+    // A text for people, borrowed from the trace.
     Note(&'a [u8]),
 }
 
