@@ -29,10 +29,10 @@ line p = decimal (p .at) ++ (codes "  " ++ (words (p .record) ++ codes "\n"))
 
 -- a refusal in words
 abbrev pub reason : ReadFault → List ℕ
-reason OneByteLeft = codes "one byte is left"
+reason OneByteLeft = codes "a single byte is left"
 reason UnknownMark = codes "no record has this mark"
-reason PastEnd = codes "the record passes the end"
-reason BadLetter = codes "a letter is not in its list, or the kind of a level is above 7"
+reason PastEnd = codes "the trace ends inside this record"
+reason BadLetter = codes "an unknown letter, or a level for a kind above 7"
 
 -- how many records there are
 abbrev pub count-text : ℕ → List ℕ

@@ -26,7 +26,7 @@ answer tag value =
     (cond (eqb tag 2 && eqb value 0) (codes "false")
     (cond (eqb tag 2 && eqb value 1) (codes "true") (codes "tag " ++ (decimal tag ++ (codes " value " ++ decimal value))))))
 
--- an after field names operation i by bit i, worth 2 to the power i
+-- an after field names operation i when its binary digit for 2 to the power i is 1
 abbrev pub named : ℕ → ℕ → Bool
 named after i = eqb (after / 2 ^ i % 2) 1
 

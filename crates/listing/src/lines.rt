@@ -58,10 +58,10 @@ fn reason_words(fault: ReadFault) -> &'static str
     ensures { λ r. ⌜ now r ≡ reason fault ⌝ }
 {
     match fault {
-        ReadFault::OneByteLeft => "one byte is left",
+        ReadFault::OneByteLeft => "a single byte is left",
         ReadFault::UnknownMark => "no record has this mark",
-        ReadFault::PastEnd => "the record passes the end",
-        ReadFault::BadLetter => "a letter is not in its list, or the kind of a level is above 7",
+        ReadFault::PastEnd => "the trace ends inside this record",
+        ReadFault::BadLetter => "an unknown letter, or a level for a kind above 7",
     }
 }
 

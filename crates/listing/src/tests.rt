@@ -54,14 +54,18 @@ fn up_to_the_first_refusal(rt: LibcRuntime) -> Result<(), Fail> {
     check_listing(
         &rt,
         b"OBMX",
-        "0  object: letter M, map\nfault r 3 3: one byte is left\n",
+        "0  object: letter M, map\nfault r 3 3: a single byte is left\n",
     )?;
     check_listing(&rt, b"HELLO", "fault r 4 0: no record has this mark\n")?;
-    check_listing(&rt, b"OB", "fault r 5 0: the record passes the end\n")?;
+    check_listing(
+        &rt,
+        b"OB",
+        "fault r 5 0: the trace ends inside this record\n",
+    )?;
     check_listing(
         &rt,
         b"OBZ",
-        "fault r 6 0: a letter is not in its list, or the kind of a level is above 7\n",
+        "fault r 6 0: an unknown letter, or a level for a kind above 7\n",
     )
 }
 

@@ -26,7 +26,7 @@ fn answer_words(heap: Global, tag: u8, value: u16) -> Result<String, AllocError>
     }
 }
 
-// Whether an after field names an operation: bit i, worth 2 to the power i, names operation i.
+// Whether an after field names operation i: its binary digit for 2 to the power i is 1.
 fn names_operation(after: u16, i: u16) -> bool
     requires { ⌜ i < 16 ⌝ }
     ensures { λ r. ⌜ r ≡ named after i ⌝ }

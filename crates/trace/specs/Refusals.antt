@@ -36,7 +36,7 @@ size criterion bs = 3
 size level bs = 4
 size note bs = 3 + getD bs 2 0
 
--- a letter of the record is not in its list, or the kind of a level setting is above 7
+-- the letter of the record stands for nothing, or a level is set for a kind above 7
 abbrev pub Misnamed : Sort → List ℕ → Type 0
 Misnamed call bs = ⊥
 Misnamed reply bs = ⊥

@@ -48,7 +48,7 @@ fn note_len(bytes: &[u8]) -> Option<usize> {
     }
 }
 
-// A record is refused wherever the trace ends inside it: with one byte by that, else as one that passes the end.
+// A record is refused wherever the trace ends inside it: with only one byte there for that, else as a record cut off.
 fn check_cuts(record: &[u8]) -> Result<(), Fail> {
     check_eq(fault(record), None)?;
     for n in 0..record.len() {
