@@ -1,11 +1,14 @@
 // One record from the front of some bytes: its mark, then its fields, then the rest.
 ghost use mathlib.Core.List.{_++_};
+ghost use mathlib.Core.Logic.{_⊎_};
 ghost use mathlib.Core.Path.{_≡_};
 ghost use Prim.Native.Nat.{_/_, _%_, _≤_, _<_};
 ghost use Rattle.std.specs.Options.{Cases};
 ghost use lib.ListN.{length, take, drop};
 ghost use Rattle.trace.specs.Format.{mark, call, reply, object, criterion, level, note};
+ghost use Rattle.trace.specs.Letters.{Named, level as level-letter};
 ghost use Rattle.trace.specs.Refusals.{Front};
+ghost use Rattle.std.specs.declared.option.Option.the-variants.{Some, None};
 use crate::letters::CriterionChoice;
 use crate::letters::Level;
 use crate::letters::ObjectChoice;
@@ -100,16 +103,23 @@ fn read_criterion<'a>(fields: &'a [u8]) -> Taken<'a>
     }
 }
 
+// The level that a letter sets for a kind of call.
+fn level_for(kind: u8, letter: u8) -> Option<Level>
+    ensures { λ r. ⌜ Cases r ((7 < kind) ⊎ Named level-letter letter None) (λ l. (kind ≤ 7) × Named level-letter letter (Some l)) ⌝ }
+{
+    if kind > LAST_KIND {
+        return None;
+    }
+    Level::from_letter(letter)
+}
+
 fn read_level<'a>(fields: &'a [u8]) -> Taken<'a>
     ensures { λ r. ⌜ Front (mark level ++ now (fields .entry)) r ⌝ }
 {
     let [kind, letter, rest @ ..] = fields else {
         return Err(ReadFault::PastEnd);
     };
-    if *kind > LAST_KIND {
-        return Err(ReadFault::BadLetter);
-    }
-    match Level::from_letter(*letter) {
+    match level_for(*kind, *letter) {
         Some(level) => Ok((Record::Level { kind: *kind, level }, rest)),
         None => Err(ReadFault::BadLetter),
     }

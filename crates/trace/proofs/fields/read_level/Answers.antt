@@ -1,4 +1,3 @@
-use mathlib.Core.Logic.{inl, inr}
 use Prim.Native.Nat.{_≤_}
 use native.Mathlib.Omega.{arith}
 use borrow.Author.Tests.{ltb-true, ltb-false}
@@ -11,15 +10,12 @@ use Rattle.trace.proofs.fields.read_level.Needs as need
 pub returns-in-rest : need.returns-in-rest
 returns-in-rest c = past-end level _ (omega (arith, ltb-true))
 
-pub returns-then-kind-gt-LAST-KIND : need.returns-then-kind-gt-LAST-KIND
-returns-then-kind-gt-LAST-KIND c = bad-letter level _ (omega (arith, ltb-false)) (inl (c .if-kind-gt-LAST-KIND .taken))
-
 pub returns-in-Some : need.returns-in-Some
 returns-in-Some c =
     let whole : 2 ≤ length (c .args .fields .now) = omega (arith, ltb-false) in
     let parts = by-place 2 _ whole in
-    let named = c .in-Some .ensures tt in
-    (cc, omega arith)
+    let named = c .in-Some .ensures tt .1 in
+    (cc, c .in-Some .ensures tt .0)
 
 pub returns-in-None : need.returns-in-None
-returns-in-None c = bad-letter level _ (omega (arith, ltb-false)) (inr (c .in-None .ensures tt))
+returns-in-None c = bad-letter level _ (omega (arith, ltb-false)) (c .in-None .ensures tt)
