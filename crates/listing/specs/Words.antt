@@ -1,4 +1,4 @@
--- The lines of a listing.
+-- Records in words.
 use mathlib.Core.Bool.{Bool, cond, not, _&&_}
 use mathlib.Core.List.{List, [], _∷_, _++_}
 use Prim.Native.Nat.{ℕ, _+_, _/_, _%_, _^_}
@@ -34,6 +34,7 @@ named after i = eqb (after / 2 ^ i % 2) 1
 abbrev pub names-below : ℕ → ℕ → List ℕ
 names-below n after = joined (λ i. cond (named after i) (codes " " ++ decimal i) []) (counting 0 n)
 
+-- all operations that an after field names
 unfoldable pub names : ℕ → List ℕ
 names after = cond (eqb after 0) (codes " none") (names-below 16 after)
 
@@ -57,6 +58,7 @@ escaped b = cond (printing b) (b ∷ []) (numbered b)
 abbrev pub quoted : List ℕ → List ℕ
 quoted text = 34 ∷ joined escaped text ++ 34 ∷ []
 
+-- the name of each object, criterion and level
 abbrev pub object-name : ObjectChoice → List ℕ
 object-name Map = codes "map"
 object-name Queue = codes "queue"

@@ -65,6 +65,7 @@ fn reason_words(fault: ReadFault) -> &'static str
     }
 }
 
+// The last line of a trace that was read to its end.
 fn count_line(heap: Global, count: usize) -> Result<String, AllocError>
     ensures { λ r. ⌜ made r (λ s. string-bytes s ≡ count-text count) ⌝ }
 {
@@ -75,6 +76,7 @@ fn count_line(heap: Global, count: usize) -> Result<String, AllocError>
     }
 }
 
+// The last line of a trace that was refused.
 fn refusal_line(heap: Global, refusal: Refusal) -> Result<String, AllocError>
     ensures { λ r. ⌜ made r (λ s. string-bytes s ≡ refusal-text refusal) ⌝ }
 {

@@ -103,6 +103,7 @@ fn quote_note(heap: Global, note: &[u8]) -> Result<String, AllocError>
     Ok(quote)
 }
 
+// The name of each object, criterion and level.
 fn object_name(choice: ObjectChoice) -> &'static str
     ensures { λ r. ⌜ now r ≡ object-name choice ⌝ }
 {
@@ -136,6 +137,7 @@ fn level_name(level: Level) -> &'static str
     }
 }
 
+// The words of each sort of record.
 fn call_words(
     heap: Global,
     thread: u8,
