@@ -1,7 +1,7 @@
 -- The text of a listing.
 use mathlib.Core.Path.{_≡_}
 use mathlib.Core.Bool.{cond}
-use mathlib.Core.List.{List, [], _∷_, _++_}
+use mathlib.Core.List.{List, _++_}
 use Prim.Native.Nat.{ℕ, _≤_, _<_}
 use lib.Chars.{codes}
 use lib.Dec.{eqb}
@@ -54,7 +54,7 @@ pub record Lists (trace text : List ℕ) : Type 0 where
   pub parses : Parses trace records answer
   pub reads : text ≡ joined line records ++ last answer
 
--- a trace of at most 4,096 bytes is listed, if memory suffices
+-- what `list` may answer: a listing, or why there is none; it promises nothing about when memory runs out
 abbrev pub Listed : List ℕ → Result (String Global) ListFault → Type 0
 Listed trace (Ok text) = (length trace ≤ 4096) × Lists trace (string-bytes text)
 Listed trace (Err TooLong) = 4096 < length trace

@@ -1,5 +1,5 @@
-use crate::lines::ListFault;
 use crate::lines::ListFaultDebug;
+use crate::lines::ListFaultDisplay;
 use crate::lines::list;
 use std::test::*;
 
@@ -72,10 +72,16 @@ fn up_to_the_first_refusal(rt: LibcRuntime) -> Result<(), Fail> {
 #[test]
 fn at_most_4096_bytes(rt: LibcRuntime) -> Result<(), Fail> {
     let zeros = [0; 4097];
-    check(matches!(list(rt.alloc(), &zeros), Err(ListFault::TooLong)))?;
     check_listing(
         &rt,
         &zeros[0..4096],
         "fault r 4 0: no record has this mark\n",
-    )
+    )?;
+    match list(rt.alloc(), &zeros) {
+        Ok(_) => Err(Fail::new("a trace of 4,097 bytes was listed")),
+        Err(fault) => {
+            let said = fault.to_string(rt.alloc())?;
+            check_eq(said.as_str(), "the trace is longer than 4,096 bytes")
+        }
+    }
 }

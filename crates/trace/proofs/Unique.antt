@@ -1,12 +1,12 @@
 -- At a place of a trace one answer is right, and no other.
 use mathlib.Core.Path.{_≡_, refl, sym, ap, subst, _∙_}
 use mathlib.Core.Bool.{cond}
-use mathlib.Core.List.{List, [], _∷_, _++_, append-assoc}
+use mathlib.Core.List.{List, _++_, append-assoc}
 use mathlib.Core.Logic.{⊎-elim}
 use Prim.Native.Nat.{ℕ, _+_, _≤_, _<_}
 use native.Mathlib.Omega.{arith}
 use lib.Dec.{eqb}
-use lib.ListN.{length, getD, take, drop, length-append, length-drop}
+use lib.ListN.{length, take, drop, length-append, length-drop}
 use Rattle.std.specs.declared.option.Option.{Option}
 use Rattle.std.specs.declared.option.Option.the-variants.{Some, None}
 use Rattle.std.specs.declared.result.Result.{Result}
@@ -19,7 +19,7 @@ use Rattle.trace.specs.declared.records.Record.the-variants.{Call, Reply, Obje
 use Rattle.trace.specs.declared.records.ReadFault.{ReadFault}
 use Rattle.trace.specs.declared.records.ReadFault.the-variants.{OneByteLeft, UnknownMark, PastEnd, BadLetter}
 use Rattle.trace.specs.declared.records.Refusal.{Refusal}
-use Rattle.trace.specs.Format.{Sort, sort, mark, fields, bytes, Settable}
+use Rattle.trace.specs.Format.{sort, mark, fields, bytes, Settable}
 use Rattle.trace.specs.Refusals.{Marked, size, Misnamed, Meets, Refused, number}
 use Rattle.trace.specs.Reading.{Stands, Answers, told, Reads}
 use Rattle.trace.proofs.Marks.{one-mark, marked, marked-long}

@@ -1,5 +1,6 @@
 // The choices that a trace names by one ASCII letter each.
 ghost use mathlib.Core.Path.{_≡_};
+ghost use Prim.Native.Nat.{_<_};
 ghost use Rattle.trace.specs.Letters.{object, criterion, level, Named};
 
 // The shared object whose calls the trace records.
@@ -21,8 +22,10 @@ impl ObjectChoice {
         }
     }
 
+    // Its letter, in ASCII.
     pub fn letter(self) -> char
-        ensures { λ r. ⌜ r ≡ object self ⌝ }
+        ensures value { λ r. ⌜ r ≡ object self ⌝ }
+        ensures ascii { λ r. ⌜ r < 128 ⌝ }
     {
         match self {
             ObjectChoice::Map => 'M',
@@ -54,8 +57,10 @@ impl CriterionChoice {
         }
     }
 
+    // Its letter, in ASCII.
     pub fn letter(self) -> char
-        ensures { λ r. ⌜ r ≡ criterion self ⌝ }
+        ensures value { λ r. ⌜ r ≡ criterion self ⌝ }
+        ensures ascii { λ r. ⌜ r < 128 ⌝ }
     {
         match self {
             CriterionChoice::Levels => 'l',
@@ -93,8 +98,10 @@ impl Level {
         }
     }
 
+    // Its letter, in ASCII.
     pub fn letter(self) -> char
-        ensures { λ r. ⌜ r ≡ level self ⌝ }
+        ensures value { λ r. ⌜ r ≡ level self ⌝ }
+        ensures ascii { λ r. ⌜ r < 128 ⌝ }
     {
         match self {
             Level::Weak => 'w',

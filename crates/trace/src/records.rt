@@ -38,7 +38,7 @@ pub enum Record<'a> {
     Note(&'a [u8]),
 }
 
-// A record and the byte place where it begins.
+// A record, with the place of its first byte.
 #[derive(Clone, Copy, Debug)]
 pub struct Placed<'a> {
     pub at: usize,
@@ -68,7 +68,7 @@ impl ReadFault {
     }
 }
 
-// A refusal and the byte place of the record that met it.
+// A refusal, with the place that was refused.
 #[derive(Clone, Copy, Debug, PartialEq, Eq)]
 pub struct Refusal {
     pub at: usize,

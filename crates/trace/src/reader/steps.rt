@@ -24,7 +24,8 @@ impl<'a> Reader<'a> {
         self.at
     }
 
-    // The next record with its place, or that the trace has ended. After a refusal the reader stays at that record.
+    // Takes the record at the reader's place and goes on behind it; `None` at the end of the trace. Neither the end nor a
+    // refusal moves the reader.
     pub fn next_record(&mut self) -> Result<Option<Placed<'a>>, Refusal>
         ensures trace { λ _. ⌜ now (self .exit) .trace ≡ now (self .entry) .trace ⌝ }
         ensures reads { λ r. ⌜ Reads (now (now (self .entry) .trace)) (now (self .entry) .at) r (now (self .exit) .at) ⌝ }

@@ -1,5 +1,5 @@
 use native.Mathlib.Omega.{arith}
-use borrow.Author.Tests.{ltb-false, true-eqb}
+use borrow.Author.Tests.{ltb-false}
 use Rattle.trace.specs.Format.{call, reply, object, criterion, level, note}
 use Rattle.trace.proofs.Marks.{behind-mark}
 use Rattle.trace.proofs.fields.read_front.Needs as need
