@@ -1,5 +1,7 @@
 // The recorded history: calls on a shared object with their replies, and what happens before what.
 
+#![tactic(auto)]
+
 mod bounded;
 mod digits;
 mod gather;

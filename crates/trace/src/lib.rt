@@ -1,5 +1,7 @@
 // The records of a trace: their bytes, and a reader that takes them one by one.
 
+#![tactic(auto)]
+
 mod fields;
 mod letters;
 mod reader;

@@ -5,5 +5,5 @@ use Rattle.listing.proofs.words.criterion_words.Goals as goal
 
 pub returns : goal.returns
 returns c =
-    let named = lettered c.letter-letter.ensures.value c.letter-letter.ensures.ascii c.criterion-name-name.ensures in
+    let named = lettered c.letter-letter.ensures.value c.letter-letter.ensures.ascii c.criterion_name-name.ensures in
     IfOk-weaker c.format.result _ _ (λ s e. e ∙ ap (λ l. codes "criterion: letter " ++ l) named) c.format.ensures.ok

@@ -7,9 +7,9 @@ glued s m p q = simp append_assoc (λ i. s ++ (m ++ (p i ++ q i)))
 
 pub returns : goal.returns
 returns c =
-    let mark = pushed (codes "\\x") refl c.in-ok-push-str.was c.push-str.ensures.bytes in
-    let high = pushed _ mark c.in-ok-push.was c.push.ensures.bytes in
-    let low = pushed _ high c.in-ok-push-2.was c.push-2.ensures.bytes in
-    let first = c.push.ensures.ascii c.hex-digit.ensures.ascii ∙ ap (λ d. d ∷ []) c.hex-digit.ensures.value in
-    let second = c.push-2.ensures.ascii c.hex-digit-2.ensures.ascii ∙ ap (λ d. d ∷ []) c.hex-digit-2.ensures.value in
+    let mark = pushed (codes "\\x") refl c.in_ok-push_str.was c.push_str.ensures.bytes in
+    let high = pushed _ mark c.in_ok-push.was c.push.ensures.bytes in
+    let low = pushed _ high c.in_ok-push-2.was c.push-2.ensures.bytes in
+    let first = c.push.ensures.ascii c.hex_digit.ensures.ascii ∙ ap (λ d. d ∷ []) c.hex_digit.ensures.value in
+    let second = c.push-2.ensures.ascii c.hex_digit-2.ensures.ascii ∙ ap (λ d. d ∷ []) c.hex_digit-2.ensures.value in
     low ∙ glued (string_bytes c.args.quote.now) (codes "\\x") first second

@@ -10,10 +10,10 @@ loop-byte-preserved c =
     let note = c.args.note.now in
     let i = c.loop-byte.byte-index in
     let b = get_or note i 0 in
-    c.in-ok-push-escaped.ensures ∙ ap (λ l. l ++ escaped b) c.loop-byte.invariant ∙ flat_map_more escaped (34 ∷ []) (take i note) b ∙ ap (λ l. 34 ∷ flat_map escaped l) (sym (take_more note i 0 c.loop-byte-test.true))
+    c.in_ok-push-escaped.ensures ∙ ap (λ l. l ++ escaped b) c.loop-byte.invariant ∙ flat_map_more escaped (34 ∷ []) (take i note) b ∙ ap (λ l. 34 ∷ flat_map escaped l) (sym (take_more note i 0 c.loop-byte-test.true))
 
 pub returns : goal.returns
 returns c =
     let note = c.args.note.now in
     let all = take_all c.loop-byte.byte-index note c.loop-byte-test.false in
-    pushed (34 ∷ []) (c.loop-byte.invariant ∙ ap (λ l. 34 ∷ flat_map escaped l) all) c.in-ok-push-str.was c.push-str.ensures.bytes
+    pushed (34 ∷ []) (c.loop-byte.invariant ∙ ap (λ l. 34 ∷ flat_map escaped l) all) c.in_ok-push_str.was c.push_str.ensures.bytes

@@ -4,8 +4,8 @@ use Rattle.trace.proofs.Marks.{past_end, bad_letter}
 use Rattle.trace.proofs.Places.{by_place}
 use Rattle.trace.proofs.fields.read_level.Goals as goal
 
-pub returns-in-default : goal.returns-in-default
-returns-in-default c = past_end level _ (omega (arith, ltb-true))
+pub returns-in_default : goal.returns-in_default
+returns-in_default c = past_end level _ (omega (arith, ltb-true))
 
 pub returns-in-Some : goal.returns-in-Some
 returns-in-Some c =

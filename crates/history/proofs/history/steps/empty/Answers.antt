@@ -3,7 +3,7 @@ use Rattle.history.specs.Bounded.{items}
 use Rattle.history.proofs.Keeping.{Kept, kept_none}
 use Rattle.history.proofs.history.steps.empty.Goals as goal
 
-pub invariant-of-result : goal.invariant-of-result
-invariant-of-result c =
+pub invariant_of-result : goal.invariant_of-result
+invariant_of-result c =
     subst (λ l. Kept l (items c.new-3.result)) (sym c.new.ensures)
     (subst (λ t. Kept [] t) (sym c.new-3.ensures) kept_none)

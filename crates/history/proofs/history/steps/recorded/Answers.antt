@@ -9,7 +9,7 @@ returns c =
     let l = h.operations in
     let fits = l.fits in
     record {
-      all = c.as-slice.ensures;
-      few = omega (arith, ap length c.as-slice.ensures, length-take l.len l.slots);
+      all = c.as_slice.ensures;
+      few = omega (arith, ap length c.as_slice.ensures, length-take l.len l.slots);
       lawful = lawful (log h) h.ascending h.settled;
     }

@@ -16,14 +16,14 @@ with-requires-2 c =
     let n = h.long in
     (lit< tt, omega arith)
 
-pub invariant-of-result : goal.invariant-of-result
-invariant-of-result c =
+pub invariant_of-result : goal.invariant_of-result
+invariant_of-result c =
     let h = c.args.history in
     let call = c.args.call in
     let log = items h.operations in
     let table = items h.before in
-    let before = c.before-call-before.result in
-    let reaches = subst (λ l. Reaches l call table before.bits) c.as-slice.ensures (subst (λ t. Reaches c.as-slice.result.now call t before.bits) c.as-slice-2.ensures c.before-call-before.ensures) in
+    let before = c.before_call-before.result in
+    let reaches = subst (λ l. Reaches l call table before.bits) c.as_slice.ensures (subst (λ t. Reaches c.as_slice.result.now call t before.bits) c.as_slice-2.ensures c.before_call-before.ensures) in
     subst (λ l. Kept l (items c.with-2.result)) (sym c.with.ensures)
     (subst (λ t. Kept (log ++ opened call ∷ []) t) (sym c.with-2.ensures)
     (kept_push limit log table call c.requires (h.ascending, (h.settled, (h.long, (h.keeps, (h.only, tt))))) before reaches))

@@ -4,10 +4,10 @@ use Rattle.history.specs.Log.{at, answered}
 use Rattle.history.proofs.Keeping.{Kept, kept_filled}
 use Rattle.history.proofs.history.steps.with_reply.Goals as goal
 
-pub invariant-of-result : goal.invariant-of-result
-invariant-of-result c =
+pub invariant_of-result : goal.invariant_of-result
+invariant_of-result c =
     let h = c.args.history in
     let x = c.args.x in
-    let e = ap (λ l. set (items h.operations) x (answered (at l x) c.args.reply)) c.as-slice.ensures in
+    let e = ap (λ l. set (items h.operations) x (answered (at l x) c.args.reply)) c.as_slice.ensures in
     subst (λ l. Kept l (items h.before)) (sym (c.replaced.ensures ∙ e))
     (kept_filled (items h.operations) (items h.before) x c.args.reply (h.ascending, (h.settled, (h.long, (h.keeps, (h.only, tt))))))

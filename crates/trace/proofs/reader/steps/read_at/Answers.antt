@@ -7,16 +7,16 @@ use Rattle.trace.proofs.Tiling.{stands}
 use Rattle.trace.proofs.Unique.{reads}
 use Rattle.trace.proofs.reader.steps.read_at.Goals as goal
 
-pub returns-then-is-empty : goal.returns-then-is-empty
-returns-then-is-empty c =
+pub returns-then-is_empty : goal.returns-then-is_empty
+returns-then-is_empty c =
     let trace = c.args.trace.now in
     let at = c.args.at in
-    let empty = eqb-true _ 0 (sym c.is-empty.ensures ∙ c.if-is-empty.true) in
+    let empty = eqb-true _ 0 (sym c.is_empty.ensures ∙ c.if-is_empty.true) in
     let end : at ≡ length trace = omega (arith, empty, ap length (take_rest trace at), length-drop at trace) in
     record { reads = reads _ _ (end, refl); within = c.requires }
 
-pub overflow-sub-result : goal.overflow-sub-result
-overflow-sub-result c =
+pub overflow_sub-result : goal.overflow_sub-result
+overflow_sub-result c =
     let trace = c.args.trace.now in
     let at = c.args.at in
     omega (arith, ap length c.in-Ok.ensures.0, ap length (take_rest trace at), length-drop at trace, length-append (bytes c.in-Ok.record) c.in-Ok.behind.now)
