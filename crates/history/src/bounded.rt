@@ -1,5 +1,7 @@
 // A list with a place for each element that it may ever hold.
-ghost use Rattle.std.specs.Prelude.{◌≡◌, ◌≤◌, length};
+ghost use Rattle.std.specs.Prelude.{◌≡◌, ◌≤◌, length, ⊤};
+
+use std::alloc::AllocError;
 
 mod methods;
 
@@ -12,3 +14,13 @@ pub struct BoundedList<T, const N: usize> {
 }
 
 impl<T: Copy, const N: usize> Copy for BoundedList<T, N> {}
+
+impl<T: Copy, const N: usize> Clone for BoundedList<T, N> {
+    ghost is_clone = { λ x y. y ≡ x };
+
+    ghost is_infallible = { λ _. ⊤ };
+
+    fn clone(&self) -> Result<Self, AllocError> {
+        Ok(*self)
+    }
+}

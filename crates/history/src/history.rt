@@ -12,6 +12,7 @@ use crate::opset::OpSet;
 mod steps;
 
 // The operations in the order in which their calls were accepted, and for each the set of those that happen before it.
+#[derive(Clone, Copy)]
 pub struct History {
     operations: BoundedList<Operation, LIMIT>,
     before: BoundedList<OpSet, LIMIT>,
@@ -21,5 +22,3 @@ pub struct History {
     ghost keeps: { Keeps (items operations) (items before) },
     ghost only: { KeepsOnly (items operations) (items before) },
 }
-
-impl Copy for History {}

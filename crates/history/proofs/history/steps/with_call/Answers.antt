@@ -24,6 +24,7 @@ invariant_of-result c =
     let table = items h.before in
     let before = c.before_call-before.result in
     let reaches = subst (λ l. Reaches l call table before.bits) c.as_slice.ensures (subst (λ t. Reaches c.as_slice.result.now call t before.bits) c.as_slice-2.ensures c.before_call-before.ensures) in
-    subst (λ l. Kept l (items c.with-2.result)) (sym c.with.ensures)
+    let kept : Kept (items c.with.result) (items c.with-2.result) = subst (λ l. Kept l (items c.with-2.result)) (sym c.with.ensures)
     (subst (λ t. Kept (log ++ opened call ∷ []) t) (sym c.with-2.ensures)
-    (kept_push limit log table call c.requires (h.ascending, (h.settled, (h.long, (h.keeps, (h.only, tt))))) before reaches))
+    (kept_push limit log table call c.requires (record { ascending = h.ascending; settled = h.settled; long = h.long; keeps = h.keeps; only = h.only }) before reaches)) in
+    record { ascending = kept.ascending; settled = kept.settled; long = kept.long; keeps = kept.keeps; only = kept.only }

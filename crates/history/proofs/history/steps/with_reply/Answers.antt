@@ -9,5 +9,6 @@ invariant_of-result c =
     let h = c.args.history in
     let x = c.args.x in
     let e = ap (λ l. set (items h.operations) x (answered (at l x) c.args.reply)) c.as_slice.ensures in
-    subst (λ l. Kept l (items h.before)) (sym (c.replaced.ensures ∙ e))
-    (kept_filled (items h.operations) (items h.before) x c.args.reply (h.ascending, (h.settled, (h.long, (h.keeps, (h.only, tt))))))
+    let kept : Kept (items c.replaced.result) (items h.before) = subst (λ l. Kept l (items h.before)) (sym (c.replaced.ensures ∙ e))
+    (kept_filled (items h.operations) (items h.before) x c.args.reply (record { ascending = h.ascending; settled = h.settled; long = h.long; keeps = h.keeps; only = h.only })) in
+    record { ascending = kept.ascending; settled = kept.settled; long = kept.long; keeps = kept.keeps; only = kept.only }
