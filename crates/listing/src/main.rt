@@ -1,4 +1,6 @@
 // Lists a trace from standard input in readable lines, up to its end or to the first record that is refused.
+#![tactic(auto)]
+
 use anyhow::anyhow;
 use lines::{LONGEST, list};
 use std::io::Read;

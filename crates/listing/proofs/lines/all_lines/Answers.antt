@@ -19,7 +19,7 @@ returns-in-Err c =
     let past = c.loop-next.invariant in
     IfOk-weaker c.ended.result _ _
     (λ l e. lists_unread past.2 c.in-Err.refusal (passed_refused past.1 _ _ c.in-Err.ensures.reads.right) _ _
-    (e.0 ∙ (λ i. string_bytes c.loop-next.text ++ c.in_ok-unread-line.ensures i)) e.1)
+    (e.0 ∙ (λ i. string_bytes c.loop-next.text ++ c.in_ok-unread_line-in-Err.ensures i)) e.1)
     c.ended.ensures
 
 pub returns-in_default : goal.returns-in_default
@@ -30,7 +30,7 @@ returns-in_default c =
     let read = subst (λ o. Answers r.trace.now r.at (Ok o) s.at) c.in_default.is c.in-Ok.ensures.reads.right in
     IfOk-weaker c.ended-in_default.result _ _
     (λ l e. lists_whole past.2 c.loop-next.count (passed_end past.1 _ read) _ _
-    (e.0 ∙ (λ i. string_bytes c.loop-next.text ++ c.in_ok-count-line.ensures i)) e.1)
+    (e.0 ∙ (λ i. string_bytes c.loop-next.text ++ c.in_ok-count_line.ensures i)) e.1)
     c.ended-in_default.ensures
 
 pub returns-in-Err-take : goal.returns-in-Err-take
@@ -42,7 +42,7 @@ returns-in-Err-take c =
     let read = subst (λ o. Answers r.trace.now r.at (Ok o) s.at) c.in-Some.is c.in-Ok.ensures.reads.right in
     IfOk-weaker c.ended-in-Err-take.result _ _
     (λ l e. lists_unrecorded past.2 r c.loop-next.count past.1 p c.in-Err-take.fault s.at (log c.take.new.history) read c.in-Err-take.ensures _ _
-    (e.0 ∙ (λ i. string_bytes c.loop-next.text ++ c.in_ok-refused-lines.ensures i)) e.1)
+    (e.0 ∙ (λ i. string_bytes c.loop-next.text ++ c.in_ok-refused_lines.ensures i)) e.1)
     c.ended-in-Err-take.ensures
 
 pub loop-next-preserved : goal.loop-next-preserved

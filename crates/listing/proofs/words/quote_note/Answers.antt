@@ -10,7 +10,7 @@ loop-byte-preserved c =
     let note = c.args.note.now in
     let i = c.loop-byte.byte-index in
     let b = get_or note i 0 in
-    c.in_ok-push-escaped.ensures ∙ ap (λ l. l ++ escaped b) c.loop-byte.invariant ∙ flat_map_more escaped (34 ∷ []) (take i note) b ∙ ap (λ l. 34 ∷ flat_map escaped l) (sym (take_more note i 0 c.loop-byte-test.true))
+    c.in_ok-push_escaped.ensures ∙ ap (λ l. l ++ escaped b) c.loop-byte.invariant ∙ flat_map_more escaped (34 ∷ []) (take i note) b ∙ ap (λ l. 34 ∷ flat_map escaped l) (sym (take_more note i 0 c.loop-byte-test.true))
 
 pub returns : goal.returns
 returns c =

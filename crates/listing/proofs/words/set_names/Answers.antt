@@ -16,14 +16,14 @@ pub loop-i-preserved : goal.loop-i-preserved
 loop-i-preserved c =
     let inv = c.loop-i.invariant in
     let t = names_turn c.loop-i.i-iterator c.next.new.self c.in-Some.i c.into_iter-i-iterator.result.set inv.2 c.in-Some.ensures.steps in
-    (tt, tt, t.0, t.1, c.in_ok-push-name.ensures ∙ ap (λ l. l ++ name c.in-Some.i) inv.4 ∙ t.2)
+    (tt, tt, t.0, t.1, c.in_ok-push_name.ensures ∙ ap (λ l. l ++ name c.in-Some.i) inv.4 ∙ t.2)
 
 pub returns : goal.returns
 unfolding names
 returns c =
     let inv = c.loop-i.invariant in
     let set = c.args.set in
-    let same = ap (λ m. m.set) c.into_iter-i-iterator.ensures.into_iter-gives ∙ c.iter-i-items.ensures.set in
+    let same = ap (λ m. m.set) c.into_iter-i-iterator.ensures.into_iter_gives ∙ c.iter-i-items.ensures.set in
     let end = names_end c.loop-i.i-iterator set (inv.2 ∙ same) inv.3 c.in-None.ensures.steps.1 in
     let some : eqb set.bits 0 ≡ false = empty_zero set.bits c.is_empty.result c.is_empty.ensures ∙ c.if-is_empty.false in
     inv.4 ∙ ap (λ d. names_below c.loop-i.i-iterator.from d.bits) same ∙ end ∙ sym (cond-false _ _ _ some)
