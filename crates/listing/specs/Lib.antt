@@ -1,4 +1,2 @@
 pub mod Words
-pub mod Endings
-pub mod Taking
 pub mod Lines

@@ -1,60 +1,50 @@
 -- The text of a listing.
-use Rattle.std.specs.Prelude.{◌≡◌, ℕ, ◌<◌, ◌≤◌, Bool, true, false, List, [], ◌∷◌, ◌++◌, length, drop, Ok, Err, string_bytes, codes, decimal, Result}
-use Rattle.history.specs.declared.operations.HistoryFault.{HistoryFault}
-use Rattle.history.specs.declared.operations.Operation.{Operation}
-use Rattle.history.specs.Order.{Precedes}
+use Rattle.std.specs.Prelude.{◌≡◌, ℕ, ◌<◌, ◌≤◌, cond, List, ◌++◌, length, Ok, Err, string_bytes, codes, decimal, Result, String, ◌==◌}
+use Rattle.std.specs.declared.alloc.Global.{Global}
+use Rattle.std.specs.List.{flat_map}
 use Rattle.trace.specs.declared.records.Placed.{Placed}
-use Rattle.trace.specs.declared.records.Record.{Record}
-use Rattle.trace.specs.declared.records.Record.TheVariants.{Call, Reply, Object, Criterion, Level, Note}
+use Rattle.trace.specs.declared.records.ReadFault.{ReadFault}
+use Rattle.trace.specs.declared.records.ReadFault.TheVariants.{OneByteLeft, UnknownMark, PastEnd, BadLetter}
 use Rattle.trace.specs.declared.records.Refusal.{Refusal}
-use Rattle.trace.specs.Reading.{Stands, Tiles}
-use Rattle.trace.specs.Refusals.{Refused}
-use Rattle.listing.specs.declared.lines.Listing.{Listing}
+use Rattle.trace.specs.Reading.{Parses}
+use Rattle.trace.specs.Refusals.{number}
 use Rattle.listing.specs.declared.lines.ListFault.{ListFault}
 use Rattle.listing.specs.declared.lines.ListFault.TheVariants.{TooLong, Memory}
-use Rattle.listing.specs.Endings.{count_text, unread_text, unrecorded_text}
-use Rattle.listing.specs.Taking.{Takes}
-use Rattle.listing.specs.Words.{words, names}
+use Rattle.listing.specs.Words.{words}
 
--- the line of a record: the place where it begins, the record in words, and what is added to them
-abbrev pub line : Placed → List ℕ → List ℕ
-line p more = decimal p.at ++ (codes "  " ++ (words p.record ++ (more ++ codes "\n")))
+-- the line of a record: the place where it begins, and the record in words
+abbrev pub line : Placed → List ℕ
+line p = decimal p.at ++ (codes "  " ++ (words p.record ++ codes "\n"))
 
--- what is added to a record that is accepted: for a call, the number of its operation and the set of those before it
-abbrev pub operation_text : Record → ℕ → ℕ → List ℕ
-operation_text (Call thread kind a b after) number before = codes "; operation " ++ (decimal number ++ (codes ", before it" ++ names before))
-operation_text (Reply thread tag value) number before = []
-operation_text (Object choice) number before = []
-operation_text (Criterion choice) number before = []
-operation_text (Level kind l) number before = []
-operation_text (Note text) number before = []
+-- a refusal in words
+abbrev pub reason : ReadFault → List ℕ
+reason OneByteLeft = codes "a single byte is left"
+reason UnknownMark = codes "no record has this mark"
+reason PastEnd = codes "the trace ends inside this record"
+reason BadLetter = codes "an unknown letter, or a level for a kind above 7"
 
--- records that are accepted one after another, their lines, and the log then
-pub data Lines : List Placed → List ℕ → List Operation → Type 0 where
-  none : Lines [] [] []
-  more : {ps : List Placed} {text : List ℕ} {log next : List Operation} (p : Placed) (before : ℕ) → Lines ps text log → Takes log p.record (Ok tt) next → Precedes next (length log) before → Lines (ps ++ p ∷ []) (text ++ line p (operation_text p.record (length log) before)) next
+-- how many records there are
+abbrev pub count_text : ℕ → List ℕ
+count_text n = cond (n == 1) (codes "1 record\n") (decimal n ++ codes " records\n")
 
--- how a listing ends behind the records that are accepted, and whether that was all of the trace: at the trace's end, at a place
--- that does not read, or at a record that the history refuses, which has its line too
-pub data Ends (trace : List ℕ) (ps : List Placed) (log : List Operation) (at : ℕ) : List ℕ → Bool → Type 0 where
-  whole : at ≡ length trace → Ends trace ps log at (count_text (length ps)) true
-  unread : (x : Refusal) → x.at ≡ at → Refused x.fault (drop at trace) → Ends trace ps log at (unread_text x) false
-  unrecorded : (p : Placed) (f : HistoryFault) (next : ℕ) (left : List Operation) → Stands trace at p next → Takes log p.record (Err f) left → Ends trace ps log at (line p [] ++ unrecorded_text f p.at) false
+-- a refusal with its layer, the reader's, its number and its place
+abbrev pub refusal_text : Refusal → List ℕ
+refusal_text x = codes "fault r " ++ (decimal (number x.fault) ++ (codes " " ++ (decimal x.at ++ (codes ": " ++ (reason x.fault ++ codes "\n")))))
 
--- a text lists a trace: the lines of its records that are accepted, in order, and its end
-pub record Lists (trace text : List ℕ) (complete : Bool) : Type 0 where
+-- the last line
+abbrev pub last : Result ℕ Refusal → List ℕ
+last (Ok n) = count_text n
+last (Err x) = refusal_text x
+
+-- a text lists a trace: a line for each of its records, in order, and the last line
+pub record Lists (trace text : List ℕ) : Type 0 where
   pub records : List Placed
-  pub lines : List ℕ
-  pub log : List Operation
-  pub listed : Lines records lines log
-  pub place : ℕ
-  pub tiles : Tiles trace 0 records place
-  pub last : List ℕ
-  pub ends : Ends trace records log place last complete
-  pub reads : text ≡ lines ++ last
+  pub answer : Result ℕ Refusal
+  pub parses : Parses trace records answer
+  pub reads : text ≡ flat_map line records ++ last answer
 
 -- what `list` may answer: a listing, or why there is none; it promises nothing about when memory runs out
-abbrev pub Listed : List ℕ → Result Listing ListFault → Type 0
-Listed trace (Ok l) = (length trace ≤ 4096) × Lists trace (string_bytes l.text) l.complete
+abbrev pub Listed : List ℕ → Result (String Global) ListFault → Type 0
+Listed trace (Ok text) = (length trace ≤ 4096) × Lists trace (string_bytes text)
 Listed trace (Err TooLong) = 4096 < length trace
 Listed trace (Err Memory) = length trace ≤ 4096

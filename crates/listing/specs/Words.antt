@@ -20,21 +20,17 @@ answer tag value =
     (cond (tag == 2 && value == 0) (codes "false")
     (cond (tag == 2 && value == 1) (codes "true") (codes "tag " ++ (decimal tag ++ (codes " value " ++ decimal value))))))
 
--- operation i is in a set
+-- an after field names operation i when its binary digit for 2 to the power i is 1
 abbrev pub named : ℕ → ℕ → Bool
-named set i = (set / 2 ^ i % 2) == 1
+named after i = after / 2 ^ i % 2 == 1
 
--- the number of an operation, behind a space
-abbrev pub name : ℕ → List ℕ
-name i = codes " " ++ decimal i
-
--- the operations below n that are in a set
+-- the operations below n that an after field names, each behind a space
 abbrev pub names_below : ℕ → ℕ → List ℕ
-names_below n set = flat_map (λ i. cond (named set i) (name i) []) (range_with_len 0 n)
+names_below n after = flat_map (λ i. cond (named after i) (codes " " ++ decimal i) []) (range_with_len 0 n)
 
--- all operations in a set
+-- all operations that an after field names
 unfoldable pub names : ℕ → List ℕ
-names set = cond (set == 0) (codes " none") (names_below 16 set)
+names after = cond (after == 0) (codes " none") (names_below 16 after)
 
 -- a hexadecimal digit
 abbrev pub hex : ℕ → ℕ

@@ -4,22 +4,20 @@
 use anyhow::anyhow;
 use lines::{LONGEST, list};
 use std::io::Read;
+use trace::count_records;
 
-mod endings;
 mod lines;
-mod taking;
 #[cfg(test)]
 mod tests;
 mod words;
 
-// Prints the listing of standard input; whether all of it was read and accepted.
+// Prints the listing of standard input; whether all of it was read as records.
 fn run(rt: &HostRuntime) -> anyhow::Result<bool> {
     let heap = rt.alloc();
     let mut trace = Vec::new(heap);
     rt.stdin().take(LONGEST as u64 + 1).read_to_end(&mut trace)?;
-    let listing = list(heap, trace.as_slice())?;
-    rt.print(listing.text)?;
-    Ok(listing.complete)
+    rt.print(list(heap, trace.as_slice())?)?;
+    Ok(count_records(trace.as_slice()).is_ok())
 }
 
 fn main(rt: HostRuntime) -> anyhow::Result<()> {

@@ -8,23 +8,22 @@ fn check_listing(
     trace: &[u8],
     expected: &str,
 ) -> Result<(), Fail> {
-    let listing = list(rt.alloc(), trace)?;
-    assert_eq!(rt; listing.text.as_str(), expected);
+    let text = list(rt.alloc(), trace)?;
+    assert_eq!(rt; text.as_str(), expected);
     Ok(())
-}
-
-// Whether all of a trace is read and accepted.
-fn is_complete(rt: &HostRuntime, trace: &[u8]) -> Result<bool, Fail> {
-    let listing = list(rt.alloc(), trace)?;
-    Ok(listing.complete)
 }
 
 #[test]
 fn each_record_in_words(rt: HostRuntime) -> Result<(), Fail> {
     check_listing(
         &rt,
-        b"CA\x01\x03\x00\x05\xff\xff\x00\x00",
-        "0  call: thread 1, kind 3, a 5, b 65535, after none; operation 0, before it none\n1 record\n",
+        b"CA\x01\x03\x00\x05\xff\xff\x01\x02",
+        "0  call: thread 1, kind 3, a 5, b 65535, after 1 8\n1 record\n",
+    )?;
+    check_listing(
+        &rt,
+        b"RE\x00\x00\x00\x00RE\x01\x01\x00\x07RE\x02\x02\x00\x00RE\x03\x02\x00\x01",
+        "0  reply: thread 0, nothing\n6  reply: thread 1, number 7\n12  reply: thread 2, false\n18  reply: thread 3, true\n4 records\n",
     )?;
     check_listing(
         &rt,
@@ -45,55 +44,12 @@ fn each_record_in_words(rt: HostRuntime) -> Result<(), Fail> {
 }
 
 #[test]
-fn operations_with_what_is_before_them(rt: HostRuntime) -> Result<(), Fail> {
+fn replies_that_fit_no_tag(rt: HostRuntime) -> Result<(), Fail> {
     check_listing(
         &rt,
-        b"CA\x00\x00\x00\x00\x00\x00\x00\x00RE\x00\x01\x00\x07CA\x01\x00\x00\x00\x00\x00\x00\x01RE\x01\x02\x00\x00CA\x01\x00\x00\x00\x00\x00\x00\x00CA\x02\x00\x00\x00\x00\x00\x00\x02",
-        "0  call: thread 0, kind 0, a 0, b 0, after none; operation 0, before it none\n10  reply: thread 0, number 7\n16  call: thread 1, kind 0, a 0, b 0, after 0; operation 1, before it 0\n26  reply: thread 1, false\n32  call: thread 1, kind 0, a 0, b 0, after none; operation 2, before it 0 1\n42  call: thread 2, kind 0, a 0, b 0, after 1; operation 3, before it 0 1\n6 records\n",
+        b"RE\x00\x09\x00\x01RE\x00\x00\x00\x01RE\x00\x02\x00\x02",
+        "0  reply: thread 0, tag 9 value 1\n6  reply: thread 0, tag 0 value 1\n12  reply: thread 0, tag 2 value 2\n3 records\n",
     )
-}
-
-#[test]
-fn up_to_a_refusal_by_the_history(rt: HostRuntime) -> Result<(), Fail> {
-    check_listing(
-        &rt,
-        b"CA\x06\x00\x00\x00\x00\x00\x00\x00OBM",
-        "0  call: thread 6, kind 0, a 0, b 0, after none\nfault b 7 0: threads are numbered 0 to 5\n",
-    )?;
-    check_listing(
-        &rt,
-        b"CA\x00\x00\x00\x00\x00\x00\x00\x00CA\x00\x00\x00\x00\x00\x00\x00\x00",
-        "0  call: thread 0, kind 0, a 0, b 0, after none; operation 0, before it none\n10  call: thread 0, kind 0, a 0, b 0, after none\nfault b 9 10: this thread still waits for a reply\n",
-    )?;
-    check_listing(
-        &rt,
-        b"CA\x00\x00\x00\x00\x00\x00\x01\x02",
-        "0  call: thread 0, kind 0, a 0, b 0, after 1 8\nfault b 10 0: the after field names an unknown operation\n",
-    )?;
-    check_listing(
-        &rt,
-        b"CA\x00\x00\x00\x00\x00\x00\x00\x00CA\x01\x00\x00\x00\x00\x00\x00\x01",
-        "0  call: thread 0, kind 0, a 0, b 0, after none; operation 0, before it none\n10  call: thread 1, kind 0, a 0, b 0, after 0\nfault b 11 10: the after field names an operation without a reply\n",
-    )?;
-    check_listing(
-        &rt,
-        b"RE\x00\x02\x00\x01",
-        "0  reply: thread 0, true\nfault b 12 0: this thread waits for no reply\n",
-    )?;
-    check_listing(
-        &rt,
-        b"CA\x00\x00\x00\x00\x00\x00\x00\x00RE\x00\x09\x00\x01",
-        "0  call: thread 0, kind 0, a 0, b 0, after none; operation 0, before it none\n10  reply: thread 0, tag 9 value 1\nfault b 13 10: this tag does not go with this value\n",
-    )
-}
-
-#[test]
-fn complete_unless_refused(rt: HostRuntime) -> Result<(), Fail> {
-    assert_eq!(rt; is_complete(&rt, b"")?, true);
-    assert_eq!(rt; is_complete(&rt, b"OBM")?, true);
-    assert_eq!(rt; is_complete(&rt, b"OBMX")?, false);
-    assert_eq!(rt; is_complete(&rt, b"OBMRE\x00\x00\x00\x00")?, false);
-    Ok(())
 }
 
 #[test]

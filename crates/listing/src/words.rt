@@ -1,9 +1,8 @@
 // Records in words.
 ghost use Rattle.std.specs.Prelude.{◌≡◌, ◌<◌, ◌++◌, IfOk, string_bytes, OnOk};
-ghost use Rattle.listing.specs.Words.{answer, name, names, printing, hex, numbered, escaped, quoted, name_of_object, name_of_criterion, name_of_level};
+ghost use Rattle.listing.specs.Words.{answer, named, names, printing, hex, numbered, escaped, quoted, name_of_object, name_of_criterion, name_of_level};
 ghost use Rattle.listing.specs.Words.{call_text, reply_text, object_text, criterion_text, level_text, note_text, words};
 
-use history::OpSet;
 use std::alloc::{AllocError, Global};
 use trace::{CriterionChoice, Level, ObjectChoice, Record};
 
@@ -20,24 +19,26 @@ fn answer_words(heap: Global, tag: u8, value: u16) -> Result<String, AllocError>
     }
 }
 
-// The number of an operation, behind a space and the text so far.
-fn push_name(heap: Global, names: &mut String, i: usize) -> Result<(), AllocError>
-    ensures { OnOk result (string_bytes names.new ≡ string_bytes names.old ++ name i) }
+// Whether an after field names operation i: its binary digit for 2 to the power i is 1.
+fn names_operation(after: u16, i: u16) -> bool
+    requires { i < 16 }
+    ensures { result ≡ named after i }
 {
-    names.push_str(format!(in heap; " {i}")?.as_str())?;
-    Ok(())
+    (after >> i) % 2 == 1
 }
 
-// The operations in a set, ascending, each behind a space.
-pub(crate) fn set_names(heap: Global, set: OpSet) -> Result<String, AllocError>
-    ensures { IfOk result (λ s. string_bytes s ≡ names set.bits) }
+// The operations that an after field names, each behind a space.
+fn after_names(heap: Global, after: u16) -> Result<String, AllocError>
+    ensures { IfOk result (λ s. string_bytes s ≡ names after) }
 {
-    if set.is_empty() {
+    if after == 0 {
         return String::from_str(heap, " none");
     }
     let mut names = String::new(heap);
-    for i in set.iter() {
-        push_name(heap, &mut names, i)?;
+    for i in 0..16u16 {
+        if names_operation(after, i) {
+            names.push_str(format!(in heap; " {i}")?.as_str())?;
+        }
     }
     Ok(names)
 }
@@ -140,7 +141,7 @@ fn call_words(
 ) -> Result<String, AllocError>
     ensures { IfOk result (λ s. string_bytes s ≡ call_text thread kind a b after) }
 {
-    let names = set_names(heap, OpSet::from_bits(after))?;
+    let names = after_names(heap, after)?;
     format!(in heap; "call: thread {thread}, kind {kind}, a {a}, b {b}, after{names}")
 }
 
