@@ -8,7 +8,7 @@ use Rattle.trace.specs.declared.records.Record.TheVariants.{Call, Reply, Object,
 use Rattle.trace.specs.declared.records.ReadFault.{ReadFault}
 use Rattle.trace.specs.declared.records.ReadFault.TheVariants.{OneByteLeft, UnknownMark, PastEnd, BadLetter}
 use Rattle.trace.specs.declared.records.Refusal.{Refusal}
-use Rattle.trace.specs.Format.{sort, mark, fields, bytes, Settable}
+use Rattle.trace.specs.Format.{sort, fields, bytes, Settable}
 use Rattle.trace.specs.Refusals.{Marked, size, Misnamed, Meets, Refused, number}
 use Rattle.trace.specs.Reading.{Stands, Answers, told, Reads}
 use Rattle.trace.proofs.Marks.{one_mark, marked, marked_long}

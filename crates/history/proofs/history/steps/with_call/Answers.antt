@@ -1,4 +1,4 @@
-use Rattle.std.proofs.Common.{◌<◌, [], ◌∷◌, ◌++◌, sym, subst, arith, lit<}
+use Rattle.std.proofs.Common.{[], ◌∷◌, ◌++◌, sym, subst, arith, lit<}
 use Rattle.history.specs.Bounded.{items}
 use Rattle.history.specs.Limits.{limit}
 use Rattle.history.specs.Log.{opened}
