@@ -1,9 +1,9 @@
 // Lists a trace from standard input in readable lines, up to its end or to the first record that is refused.
 #![tactic(auto)]
 
-use anyhow::anyhow;
 use lines::{LONGEST, list};
 use std::io::Read;
+use std::process::ExitCode;
 use trace::count_records;
 
 mod lines;
@@ -20,13 +20,13 @@ fn run(rt: &HostRuntime) -> anyhow::Result<bool> {
     Ok(count_records(trace.as_slice()).is_ok())
 }
 
-fn main(rt: HostRuntime) -> anyhow::Result<()> {
+fn main(rt: HostRuntime) -> ExitCode {
     match run(&rt) {
-        Ok(true) => Ok(()),
-        Ok(false) => Err(anyhow!("a record was refused")),
+        Ok(true) => ExitCode::SUCCESS,
+        Ok(false) => ExitCode::FAILURE,
         Err(error) => {
-            eprintln!(rt; "listing: {error}")?;
-            Err(error)
+            let _ = eprintln!(rt; "listing: {error}");
+            ExitCode::FAILURE
         }
     }
 }

@@ -1,5 +1,5 @@
 // Recording calls and replies.
-ghost use Rattle.std.specs.Prelude.{◌≡◌, ◌<◌, ◌≤◌, [], ◌∷◌, ◌++◌, length, set, OnErr, slice_set};
+ghost use Rattle.std.specs.Prelude.{◌≡◌, ◌<◌, ◌≤◌, [], ◌∷◌, ◌++◌, length, OnErr, slice_set};
 ghost use Rattle.history.specs.declared.operations.Action.TheVariants.{Call as calling, Reply as replying};
 ghost use Rattle.history.specs.declared.operations.HistoryFault.{HistoryFault as Fault};
 ghost use Rattle.history.specs.Limits.{limit};
