@@ -2,11 +2,13 @@
 use Rattle.std.proofs.Common.{◌≡◌, ℕ, ◌<◌, List, [], ◌∷◌, ◌++◌, length, sym, refl, ◌∙◌, arith, length-set}
 use native.Mathlib.Decide.{dec_lt}
 use Rattle.std.proofs.lemmas.List.{length_push}
+use Rattle.history.specs.declared.history.History.{History}
 use Rattle.history.specs.declared.operations.Call.{Call}
 use Rattle.history.specs.declared.operations.HistoryFault.{HistoryFault}
 use Rattle.history.specs.declared.operations.HistoryFault.TheVariants.{Full}
 use Rattle.history.specs.declared.operations.Operation.{Operation}
 use Rattle.history.specs.declared.opset.OpSet.{OpSet}
+use Rattle.history.specs.Bounded.{items}
 use Rattle.history.specs.Log.{at, opened, answered}
 use Rattle.history.specs.Order.{Ascending, Settled, Precedes}
 use Rattle.history.specs.Refusals.{CallMeets}
@@ -16,12 +18,18 @@ use Rattle.history.proofs.Orders.{held, ascending_none, settled_none, filled, as
 use Rattle.history.proofs.Tables.{kept_exact, new_row, keeps_push, only_push, keeps_filled, only_filled}
 
 -- the facts of the ghost fields
-pub record Kept (log : List Operation) (table : List OpSet) : Type 0 where
-  pub ascending : Ascending log
-  pub settled : Settled log
-  pub long : length table ≡ length log
-  pub keeps : Keeps log table
-  pub only : KeepsOnly log table
+abbrev pub Kept : List Operation → List OpSet → Type 0
+Kept log table = record {
+  ascending : Ascending log;
+  settled : Settled log;
+  long : length table ≡ length log;
+  keeps : Keeps log table;
+  only : KeepsOnly log table;
+}
+
+-- a history has them
+pub kept : (h : History) → Kept (items h.operations) (items h.before)
+kept h = record { ascending = h.ascending; settled = h.settled; long = h.long; keeps = h.keeps; only = h.only }
 
 pub kept_none : Kept [] []
 kept_none = record {
@@ -34,23 +42,23 @@ kept_none = record {
 
 -- a call that is accepted, with the set of what is before it
 pub kept_push : (limit : ℕ) (log : List Operation) (table : List OpSet) (c : Call) → ((f : HistoryFault) → CallMeets limit log c f → ⊥) → Kept log table → (all : OpSet) → Reaches log c table all.bits → Kept (log ++ opened c ∷ []) (table ++ all ∷ [])
-kept_push limit log table c accepted kept all reaches =
-    let new : Precedes (log ++ opened c ∷ []) (length log) all.bits = new_row limit log c accepted kept.ascending table (kept_exact log table kept.ascending kept.keeps kept.only) all.bits reaches in
+kept_push limit log table c accepted k all reaches =
+    let new : Precedes (log ++ opened c ∷ []) (length log) all.bits = new_row limit log c accepted k.ascending table (kept_exact log table k.ascending k.keeps k.only) all.bits reaches in
     record {
-      ascending = ascending_push limit log c accepted kept.ascending;
-      settled = settled_push limit log c accepted kept.settled;
-      long = omega (arith, length_push log (opened c), length_push table all, kept.long);
-      keeps = keeps_push limit log c accepted kept.ascending table kept.long all new kept.keeps;
-      only = only_push limit log c accepted kept.ascending table kept.long all new kept.only;
+      ascending = ascending_push limit log c accepted k.ascending;
+      settled = settled_push limit log c accepted k.settled;
+      long = omega (arith, length_push log (opened c), length_push table all, k.long);
+      keeps = keeps_push limit log c accepted k.ascending table k.long all new k.keeps;
+      only = only_push limit log c accepted k.ascending table k.long all new k.only;
     }
 
 pub kept_filled : (log : List Operation) (table : List OpSet) (i : ℕ) (reply : ℕ × ℕ) → Kept log table → Kept (filled log i reply) table
-kept_filled log table i reply kept = record {
-  ascending = ascending_filled log i reply kept.ascending;
-  settled = settled_filled log i reply kept.settled;
-  long = kept.long ∙ sym (length-set log i (answered (at log i) reply));
-  keeps = keeps_filled log i reply table kept.keeps;
-  only = only_filled log i reply table kept.only;
+kept_filled log table i reply k = record {
+  ascending = ascending_filled log i reply k.ascending;
+  settled = settled_filled log i reply k.settled;
+  long = k.long ∙ sym (length-set log i (answered (at log i) reply));
+  keeps = keeps_filled log i reply table k.keeps;
+  only = only_filled log i reply table k.only;
 }
 
 -- there is room where a call is accepted

@@ -5,5 +5,5 @@ use Rattle.history.proofs.history.steps.empty.Goals as goal
 
 pub invariant_of-result : goal.invariant_of-result
 invariant_of-result c =
-    let kept : Kept (items c.new.result) (items c.new-3.result) = subst (λ l. Kept l (items c.new-3.result)) (sym c.new.ensures) (subst (λ t. Kept [] t) (sym c.new-3.ensures) kept_none) in
-    record { ascending = kept.ascending; settled = kept.settled; long = kept.long; keeps = kept.keeps; only = kept.only }
+    subst (λ l. Kept l (items c.new-3.result)) (sym c.new.ensures)
+    (subst (λ t. Kept [] t) (sym c.new-3.ensures) kept_none)

@@ -3,7 +3,7 @@ use Rattle.history.specs.Bounded.{items}
 use Rattle.history.specs.Limits.{limit}
 use Rattle.history.specs.Log.{opened}
 use Rattle.history.specs.Table.{Reaches}
-use Rattle.history.proofs.Keeping.{Kept, kept_push, room}
+use Rattle.history.proofs.Keeping.{Kept, kept, kept_push, room}
 use Rattle.history.proofs.history.steps.with_call.Goals as goal
 
 pub with-requires : goal.with-requires
@@ -24,7 +24,6 @@ invariant_of-result c =
     let table = items h.before in
     let before = c.before_call-before.result in
     let reaches = subst (λ l. Reaches l call table before.bits) c.as_slice.ensures (subst (λ t. Reaches c.as_slice.result.now call t before.bits) c.as_slice-2.ensures c.before_call-before.ensures) in
-    let kept : Kept (items c.with.result) (items c.with-2.result) = subst (λ l. Kept l (items c.with-2.result)) (sym c.with.ensures)
+    subst (λ l. Kept l (items c.with-2.result)) (sym c.with.ensures)
     (subst (λ t. Kept (log ++ opened call ∷ []) t) (sym c.with-2.ensures)
-    (kept_push limit log table call c.requires (record { ascending = h.ascending; settled = h.settled; long = h.long; keeps = h.keeps; only = h.only }) before reaches)) in
-    record { ascending = kept.ascending; settled = kept.settled; long = kept.long; keeps = kept.keeps; only = kept.only }
+    (kept_push limit log table call c.requires (kept h) before reaches))

@@ -1,7 +1,7 @@
 use Rattle.std.proofs.Common.{set, sym, ap, ◌∙◌, subst}
 use Rattle.history.specs.Bounded.{items}
 use Rattle.history.specs.Log.{at, answered}
-use Rattle.history.proofs.Keeping.{Kept, kept_filled}
+use Rattle.history.proofs.Keeping.{Kept, kept, kept_filled}
 use Rattle.history.proofs.history.steps.with_reply.Goals as goal
 
 pub invariant_of-result : goal.invariant_of-result
@@ -9,6 +9,5 @@ invariant_of-result c =
     let h = c.args.history in
     let x = c.args.x in
     let e = ap (λ l. set (items h.operations) x (answered (at l x) c.args.reply)) c.as_slice.ensures in
-    let kept : Kept (items c.replaced.result) (items h.before) = subst (λ l. Kept l (items h.before)) (sym (c.replaced.ensures ∙ e))
-    (kept_filled (items h.operations) (items h.before) x c.args.reply (record { ascending = h.ascending; settled = h.settled; long = h.long; keeps = h.keeps; only = h.only })) in
-    record { ascending = kept.ascending; settled = kept.settled; long = kept.long; keeps = kept.keeps; only = kept.only }
+    subst (λ l. Kept l (items h.before)) (sym (c.replaced.ensures ∙ e))
+    (kept_filled (items h.operations) (items h.before) x c.args.reply (kept h))
