@@ -1,10 +1,10 @@
 -- A record is refused behind its mark: no other mark is there, and what is checked earlier does not hold.
-use Rattle.std.proofs.Common.{◌≡◌, ℕ, ◌+◌, ◌-◌, ◌<◌, ◌≤◌, cond, eqb, List, [], ◌∷◌, ◌++◌, length, get_or, take, drop, Result, sym, refl, ap, ◌∙◌, subst, arith, length-take, Bor}
+use Rattle.std.proofs.Common.{◌≡◌, ℕ, ◌+◌, ◌-◌, ◌<◌, ◌≤◌, cond, eqb, List, [], ◌∷◌, ◌++◌, length, get_or, take, drop, Err, Result, ◌≢◌, slice_index, sym, refl, ap, ◌∙◌, subst, arith, length-take, Bor}
 use Rattle.trace.specs.declared.records.Record.{Record}
 use Rattle.trace.specs.declared.records.ReadFault.{ReadFault}
 use Rattle.trace.specs.declared.records.ReadFault.TheVariants.{OneByteLeft, UnknownMark, PastEnd, BadLetter}
 use Rattle.trace.specs.Format.{Sort, call, reply, object, criterion, level, note, mark}
-use Rattle.trace.specs.Refusals.{Marked, size, Misnamed, Meets, Refused, Front, number}
+use Rattle.trace.specs.Refusals.{Marked, size, Misnamed, Meets, Refused, Front, Chosen, number}
 use Rattle.trace.proofs.Places.{by_place}
 
 -- the second bytes of the marks are all different
@@ -68,3 +68,10 @@ module _ (s : Sort) (fs : List ℕ) where
           let short : length (mark s ++ fs) < size s (mark s ++ fs) = subst (λ t. length (mark s ++ fs) < size t (mark s ++ fs)) same m.2 in
           omega (arith, long s fs)
       first BadLetter l m = omega arith
+
+-- a choice that is refused is a record that is refused
+pub unchosen : {X : Type 0} (letter : X → ℕ) (s : Sort) (fs : List ℕ) → size s (mark s ++ fs) ≡ 3 → (((x : X) → letter x ≢ slice_index fs 0) → Misnamed s (mark s ++ fs)) → (f : ReadFault) → Chosen letter fs (Err f) → Refused f (mark s ++ fs)
+unchosen letter s fs three wrong PastEnd h = past_end s fs (omega arith)
+unchosen letter s fs three wrong BadLetter h = bad_letter s fs (omega (arith, h.0)) (wrong h.1)
+unchosen letter s fs three wrong OneByteLeft h = absurd h
+unchosen letter s fs three wrong UnknownMark h = absurd h

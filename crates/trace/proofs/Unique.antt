@@ -1,7 +1,6 @@
 -- At a place of a trace one answer is right, and no other.
-use Rattle.std.proofs.Common.{◌≡◌, ℕ, ◌+◌, ◌<◌, ◌≤◌, cond, eqb, List, ◌++◌, length, take, drop, Some, None, Ok, Err, Option, Result, sym, refl, ap, ◌∙◌, subst, ⊎_elim, append_assoc, arith, length-append, length-drop}
+use Rattle.std.proofs.Common.{◌≡◌, ℕ, ◌+◌, ◌<◌, ◌≤◌, List, ◌++◌, length, take, drop, Some, None, Ok, Err, Option, Result, sym, refl, ap, ◌∙◌, subst, ⊎_elim, append_assoc, arith, length-append, length-drop}
 use Rattle.std.proofs.lemmas.List.{take_at, append_cancel_left}
-use Rattle.std.proofs.lemmas.Bool.{cases_order}
 use Rattle.trace.specs.declared.records.Placed.{Placed}
 use Rattle.trace.specs.declared.records.Record.{Record}
 use Rattle.trace.specs.declared.records.Record.TheVariants.{Call, Reply, Object, Criterion, Level, Note}
@@ -11,6 +10,8 @@ use Rattle.trace.specs.declared.records.Refusal.{Refusal}
 use Rattle.trace.specs.Format.{sort, fields, bytes, Settable}
 use Rattle.trace.specs.Refusals.{Marked, size, Misnamed, Meets, Refused, number}
 use Rattle.trace.specs.Reading.{Stands, Answers, told, Reads}
+use Rattle.faults.proofs.Once.{refused_once}
+use Rattle.trace.specs.Numbers.{one_number}
 use Rattle.trace.proofs.Marks.{one_mark, marked, marked_long}
 
 -- a record is as long as its mark says, and a note as its third byte says
@@ -68,23 +69,6 @@ one_record r s x y e =
     let same : bytes r ≡ bytes s = sym (take_at (bytes r) x (length (bytes s)) long) ∙ ap (take (length (bytes s))) e ∙ take_at (bytes s) y (length (bytes s)) refl in
     (same, append_cancel_left (bytes s) x y (ap (λ b. b ++ x) (sym same) ∙ e))
 
-fault_by : ℕ → ReadFault
-fault_by n = cond (eqb n 3) OneByteLeft (cond (eqb n 4) UnknownMark (cond (eqb n 5) PastEnd BadLetter))
-
-fault_back : (f : ReadFault) → fault_by (number f) ≡ f
-unfolding fault_by
-fault_back OneByteLeft = refl
-fault_back UnknownMark = refl
-fault_back PastEnd = refl
-fault_back BadLetter = refl
-
-one_refusal : (f g : ReadFault) (bs : List ℕ) → Refused f bs → Refused g bs → f ≡ g
-one_refusal f g bs p q =
-    ⊎_elim
-    (λ same. sym (fault_back f) ∙ ap fault_by same ∙ fault_back g)
-    (⊎_elim (λ below. absurd (q.first f below p.holds)) (λ above. absurd (p.first g above q.holds)))
-    (cases_order (number f) (number g))
-
 module _ (trace : List ℕ) (at : ℕ) where
   -- at the end no record stands, and nothing is refused; where a record stands, nothing is refused
   pub end_stands_not : {p : Placed} {next : ℕ} → at ≡ length trace → Stands trace at p next → ⊥
@@ -102,7 +86,7 @@ module _ (trace : List ℕ) (at : ℕ) where
       (same, s.ends ∙ ap (λ b. at + length b) same ∙ sym t.ends)
 
   pub one_refused : {x y : Refusal} → x.at ≡ y.at → Refused x.fault (drop at trace) → Refused y.fault (drop at trace) → x ≡ y
-  one_refused {x} {y} e p q = λ i. record { at = e i; fault = one_refusal x.fault y.fault _ p q i }
+  one_refused {x} {y} e p q = λ i. record { at = e i; fault = refused_once number (λ g. Meets g (drop at trace)) one_number x.fault y.fault p q i }
 
   one_answer : (a b : Result (Option Placed) Refusal) (m n : ℕ) → Answers trace at a m → Answers trace at b n → (told a ≡ told b) × (m ≡ n)
   one_answer (Ok None) (Ok None) m n p q = (refl, p.1 ∙ sym q.1)

@@ -1,5 +1,6 @@
 -- The letters of a trace: which byte, in ASCII, stands for which choice.
-use Rattle.std.specs.Prelude.{◌≡◌, ℕ, Option, MatchOption, ◌≢◌}
+use Rattle.std.specs.Prelude.{◌≡◌, ℕ, Option, MatchOption, Ok, Err, Result, ◌≢◌}
+use Rattle.trace.specs.declared.letters.UnknownLetter.{UnknownLetter}
 use Rattle.trace.specs.declared.letters.ObjectChoice.{ObjectChoice}
 use Rattle.trace.specs.declared.letters.ObjectChoice.TheVariants.{Map, Queue}
 use Rattle.trace.specs.declared.letters.CriterionChoice.{CriterionChoice}
@@ -31,3 +32,12 @@ level Complete = 97  -- a
 -- what a byte names: the choice that has it as its letter, or none where no choice has
 abbrev pub Named : {X : Type 0} → (X → ℕ) → ℕ → Option X → Type 0
 Named {X} letter b named = MatchOption named ((x : X) → letter x ≢ b) (λ x. letter x ≡ b)
+
+-- the same of a conversion that fails where no choice has the byte
+abbrev pub Names : {X : Type 0} → (X → ℕ) → ℕ → Result X UnknownLetter → Type 0
+Names letter b (Ok x) = letter x ≡ b
+Names {X} letter b (Err _) = (x : X) → letter x ≢ b
+
+-- a conversion of bytes takes each for the choice that has it as its letter
+abbrev pub ByLetter : {X : Type 0} → (X → ℕ) → (ℕ → Result X UnknownLetter → Type 0) → Type 0
+ByLetter {X} letter gives = (b : ℕ) (r : Result X UnknownLetter) → gives b r → Names letter b r

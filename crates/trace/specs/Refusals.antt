@@ -1,9 +1,11 @@
 -- When the front of some bytes is refused, and what is read from it otherwise.
-use Rattle.std.specs.Prelude.{◌≡◌, ℕ, ◌+◌, ◌<◌, ◌≤◌, ◌⊎◌, List, ◌++◌, length, take, Ok, Err, Result, ◌≢◌, slice_index}
+use Rattle.std.specs.Prelude.{◌≡◌, ℕ, ◌+◌, ◌<◌, ◌≤◌, ◌⊎◌, List, ◌∷◌, ◌++◌, length, take, Ok, Err, Result, ◌≢◌, slice_index}
 use Rattle.std.specs.Borrow.{Bor}
+use Rattle.faults.specs.Refused as fault
 use Rattle.trace.specs.declared.letters.ObjectChoice.{ObjectChoice}
 use Rattle.trace.specs.declared.letters.CriterionChoice.{CriterionChoice}
 use Rattle.trace.specs.declared.letters.Level.{Level}
+use Rattle.trace.specs.declared.letters.UnknownLetter.{UnknownLetter}
 use Rattle.trace.specs.declared.records.Record.{Record}
 use Rattle.trace.specs.declared.records.ReadFault.{ReadFault}
 use Rattle.trace.specs.declared.records.ReadFault.TheVariants.{OneByteLeft, UnknownMark, PastEnd, BadLetter}
@@ -46,12 +48,24 @@ Meets UnknownMark bs = (2 ≤ length bs) × ((s : Sort) → Marked s bs → ⊥)
 Meets PastEnd bs = (s : Sort) × Marked s bs × (length bs < size s bs)
 Meets BadLetter bs = (s : Sort) × Marked s bs × Misnamed s bs
 
--- refused: a condition holds, and none that is checked earlier does
-pub record Refused (f : ReadFault) (bs : List ℕ) : Type 0 where
-  pub holds : Meets f bs
-  pub first : (g : ReadFault) → number g < number f → Meets g bs → ⊥
+-- refused for the first condition that holds
+abbrev pub Refused : ReadFault → List ℕ → Type 0
+Refused f bs = fault.Refused number (λ g. Meets g bs) f
 
 -- what stands at the front of some bytes: a record and the bytes behind it, or a refusal
 abbrev pub Front : List ℕ → Result (Record × Bor (List ℕ)) ReadFault → Type 0
 Front bs (Ok taken) = (bs ≡ bytes taken.0 ++ taken.1.now) × Settable taken.0
 Front bs (Err f) = Refused f bs
+
+-- what stands behind a mark that a choice's letter follows: the choice and the bytes behind it, or a refusal
+abbrev pub Chosen : {X : Type 0} → (X → ℕ) → List ℕ → Result (X × Bor (List ℕ)) ReadFault → Type 0
+Chosen letter fs (Ok taken) = fs ≡ letter taken.0 ∷ taken.1.now
+Chosen letter fs (Err OneByteLeft) = ⊥
+Chosen letter fs (Err UnknownMark) = ⊥
+Chosen letter fs (Err PastEnd) = length fs < 1
+Chosen {X} letter fs (Err BadLetter) = (1 ≤ length fs) × ((x : X) → letter x ≢ slice_index fs 0)
+
+-- what a letter sets for a kind: a level for one of the kinds 0 to 7, or none
+abbrev pub Sets : ℕ → ℕ → Result Level UnknownLetter → Type 0
+Sets kind b (Ok l) = (kind ≤ 7) × (letter.level l ≡ b)
+Sets kind b (Err _) = (7 < kind) ⊎ ((l : Level) → letter.level l ≢ b)

@@ -1,10 +1,9 @@
 // One record from the front of some bytes: its mark, then its fields, then the rest.
 ghost use Rattle.std.specs.Prelude.{◌≡◌, ◌/◌, ◌%◌, ◌<◌, ◌≤◌, ◌⊎◌, ◌++◌, length, take, drop, Some, None, MatchOption};
 ghost use Rattle.trace.specs.Format.{mark, call, reply, object, criterion, level, note};
-ghost use Rattle.trace.specs.Letters.{Named, level as level_letter};
-ghost use Rattle.trace.specs.Refusals.{Front};
+ghost use Rattle.trace.specs.Refusals.{Front, Chosen, Sets};
 
-use crate::letters::{CriterionChoice, Level, ObjectChoice};
+use crate::letters::{Lettered, Level, UnknownLetter};
 use crate::records::{ReadFault, Record};
 
 const CALL: [u8; 2] = *b"CA";
@@ -71,38 +70,38 @@ fn read_reply<'a>(fields: &'a [u8]) -> Taken<'a>
     ))
 }
 
-fn read_object<'a>(fields: &'a [u8]) -> Taken<'a>
-    ensures { Front (mark object ++ fields.now) result }
+// The choice that the letter at the front names, and the bytes behind it.
+fn read_choice<'a, C: Lettered>(fields: &'a [u8]) -> Result<(C, &'a [u8]), ReadFault>
+    ensures { Chosen C.letter_of fields.now result }
 {
     let [letter, rest @ ..] = fields else {
         return Err(ReadFault::PastEnd);
     };
-    match ObjectChoice::from_letter(*letter) {
-        Some(choice) => Ok((Record::Object(choice), rest)),
-        None => Err(ReadFault::BadLetter),
-    }
+    Ok((C::try_from(*letter)?, rest))
+}
+
+fn read_object<'a>(fields: &'a [u8]) -> Taken<'a>
+    ensures { Front (mark object ++ fields.now) result }
+{
+    let (choice, rest) = read_choice(fields)?;
+    Ok((Record::Object(choice), rest))
 }
 
 fn read_criterion<'a>(fields: &'a [u8]) -> Taken<'a>
     ensures { Front (mark criterion ++ fields.now) result }
 {
-    let [letter, rest @ ..] = fields else {
-        return Err(ReadFault::PastEnd);
-    };
-    match CriterionChoice::from_letter(*letter) {
-        Some(choice) => Ok((Record::Criterion(choice), rest)),
-        None => Err(ReadFault::BadLetter),
-    }
+    let (choice, rest) = read_choice(fields)?;
+    Ok((Record::Criterion(choice), rest))
 }
 
 // The level that a letter sets for a kind of call.
-fn level_for(kind: u8, letter: u8) -> Option<Level>
-    ensures { MatchOption result ((7 < kind) ⊎ Named level_letter letter None) (λ l. (kind ≤ 7) × Named level_letter letter (Some l)) }
+fn level_for(kind: u8, letter: u8) -> Result<Level, UnknownLetter>
+    ensures { Sets kind letter result }
 {
     if kind > LAST_KIND {
-        return None;
+        return Err(UnknownLetter);
     }
-    Level::from_letter(letter)
+    Level::try_from(letter)
 }
 
 fn read_level<'a>(fields: &'a [u8]) -> Taken<'a>
@@ -111,10 +110,8 @@ fn read_level<'a>(fields: &'a [u8]) -> Taken<'a>
     let [kind, letter, rest @ ..] = fields else {
         return Err(ReadFault::PastEnd);
     };
-    match level_for(*kind, *letter) {
-        Some(level) => Ok((Record::Level { kind: *kind, level }, rest)),
-        None => Err(ReadFault::BadLetter),
-    }
+    let level = level_for(*kind, *letter)?;
+    Ok((Record::Level { kind: *kind, level }, rest))
 }
 
 // The first bytes, as many as a note's length says, and the rest.
@@ -130,10 +127,10 @@ fn read_note<'a>(fields: &'a [u8]) -> Taken<'a>
     let [size, bytes @ ..] = fields else {
         return Err(ReadFault::PastEnd);
     };
-    match split_text(*size, bytes) {
-        Some((text, rest)) => Ok((Record::Note(text), rest)),
-        None => Err(ReadFault::PastEnd),
-    }
+    let Some((text, rest)) = split_text(*size, bytes) else {
+        return Err(ReadFault::PastEnd);
+    };
+    Ok((Record::Note(text), rest))
 }
 
 // The record at the front of some bytes.

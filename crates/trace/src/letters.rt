@@ -1,6 +1,44 @@
 // The choices that a trace names by one ASCII letter each.
-ghost use Rattle.std.specs.Prelude.{◌≡◌, ◌<◌};
-ghost use Rattle.trace.specs.Letters.{object, criterion, level, Named};
+ghost use Rattle.std.specs.Prelude.{◌≡◌, ◌<◌, ℕ, Some, codes};
+ghost use Rattle.trace.specs.Letters.{object, criterion, level, Named, Names, ByLetter};
+ghost use Rattle.trace.specs.Names.{object as object_name, criterion as criterion_name, level as level_name};
+
+use std::error::Error;
+use std::fmt;
+
+// A byte that is the letter of no choice.
+#[derive(Clone, Copy, Debug, PartialEq, Eq)]
+pub struct UnknownLetter;
+
+impl fmt::Display for UnknownLetter {
+    ghost output = { λ _. Some (codes "no choice has this letter") };
+
+    fn fmt<W: fmt::Write>(&self, f: &mut fmt::Formatter<W>) -> fmt::Result {
+        f.write_str("no choice has this letter")
+    }
+}
+
+impl Error for UnknownLetter {}
+
+// A choice with a letter of its own.
+pub trait Lettered: Copy + TryFrom<u8, Error = UnknownLetter> {
+    ghost letter_of: { Self → ℕ };
+
+    // Its letter, in ASCII.
+    fn letter(self) -> char
+        ensures value { result ≡ letter_of self }
+        ensures ascii { result < 128 };
+
+    // A byte is taken for the choice that has it as its letter.
+    ghost by_letter: { ByLetter letter_of Self.try_from_gives };
+
+    // The choice that a letter names, if it names one.
+    final fn from_letter(letter: u8) -> Option<Self>
+        ensures { Named letter_of letter result }
+    {
+        Self::try_from(letter).ok()
+    }
+}
 
 // The shared object whose calls the trace records.
 #[derive(Clone, Copy, Debug, PartialEq, Eq)]
@@ -9,27 +47,41 @@ pub enum ObjectChoice {
     Queue,
 }
 
-impl ObjectChoice {
-    // The object that a letter names, if it names one.
-    pub fn from_letter(letter: u8) -> Option<ObjectChoice>
-        ensures { Named object letter result }
-    {
+impl TryFrom<u8> for ObjectChoice {
+    type Error = UnknownLetter;
+
+    ghost try_from_gives = { Names object };
+
+    fn try_from(letter: u8) -> Result<ObjectChoice, UnknownLetter> {
         match letter as char {
-            'M' => Some(ObjectChoice::Map),
-            'Q' => Some(ObjectChoice::Queue),
-            _ => None,
+            'M' => Ok(ObjectChoice::Map),
+            'Q' => Ok(ObjectChoice::Queue),
+            _ => Err(UnknownLetter),
         }
     }
+}
 
-    // Its letter, in ASCII.
-    pub fn letter(self) -> char
-        ensures value { result ≡ object self }
-        ensures ascii { result < 128 }
-    {
+impl Lettered for ObjectChoice {
+    ghost letter_of = { object };
+
+    ghost by_letter = { λ b r h. h };
+
+    fn letter(self) -> char {
         match self {
             ObjectChoice::Map => 'M',
             ObjectChoice::Queue => 'Q',
         }
+    }
+}
+
+impl fmt::Display for ObjectChoice {
+    ghost output = { λ x. Some (object_name x) };
+
+    fn fmt<W: fmt::Write>(&self, f: &mut fmt::Formatter<W>) -> fmt::Result {
+        f.write_str(match self {
+            ObjectChoice::Map => "map",
+            ObjectChoice::Queue => "queue",
+        })
     }
 }
 
@@ -42,31 +94,47 @@ pub enum CriterionChoice {
     CausalConvergence,
 }
 
-impl CriterionChoice {
-    // The criterion that a letter names, if it names one.
-    pub fn from_letter(letter: u8) -> Option<CriterionChoice>
-        ensures { Named criterion letter result }
-    {
+impl TryFrom<u8> for CriterionChoice {
+    type Error = UnknownLetter;
+
+    ghost try_from_gives = { Names criterion };
+
+    fn try_from(letter: u8) -> Result<CriterionChoice, UnknownLetter> {
         match letter as char {
-            'l' => Some(CriterionChoice::Levels),
-            'r' => Some(CriterionChoice::ReadMyWrites),
-            'g' => Some(CriterionChoice::MonotonicReads),
-            'v' => Some(CriterionChoice::CausalConvergence),
-            _ => None,
+            'l' => Ok(CriterionChoice::Levels),
+            'r' => Ok(CriterionChoice::ReadMyWrites),
+            'g' => Ok(CriterionChoice::MonotonicReads),
+            'v' => Ok(CriterionChoice::CausalConvergence),
+            _ => Err(UnknownLetter),
         }
     }
+}
 
-    // Its letter, in ASCII.
-    pub fn letter(self) -> char
-        ensures value { result ≡ criterion self }
-        ensures ascii { result < 128 }
-    {
+impl Lettered for CriterionChoice {
+    ghost letter_of = { criterion };
+
+    ghost by_letter = { λ b r h. h };
+
+    fn letter(self) -> char {
         match self {
             CriterionChoice::Levels => 'l',
             CriterionChoice::ReadMyWrites => 'r',
             CriterionChoice::MonotonicReads => 'g',
             CriterionChoice::CausalConvergence => 'v',
         }
+    }
+}
+
+impl fmt::Display for CriterionChoice {
+    ghost output = { λ x. Some (criterion_name x) };
+
+    fn fmt<W: fmt::Write>(&self, f: &mut fmt::Formatter<W>) -> fmt::Result {
+        f.write_str(match self {
+            CriterionChoice::Levels => "levels",
+            CriterionChoice::ReadMyWrites => "read my writes",
+            CriterionChoice::MonotonicReads => "monotonic reads",
+            CriterionChoice::CausalConvergence => "causal convergence",
+        })
     }
 }
 
@@ -81,27 +149,30 @@ pub enum Level {
     Complete,
 }
 
-impl Level {
-    // The level that a letter names, if it names one.
-    pub fn from_letter(letter: u8) -> Option<Level>
-        ensures { Named level letter result }
-    {
+impl TryFrom<u8> for Level {
+    type Error = UnknownLetter;
+
+    ghost try_from_gives = { Names level };
+
+    fn try_from(letter: u8) -> Result<Level, UnknownLetter> {
         match letter as char {
-            'w' => Some(Level::Weak),
-            'b' => Some(Level::Basic),
-            'm' => Some(Level::Monotonic),
-            'p' => Some(Level::Peer),
-            'c' => Some(Level::Causal),
-            'a' => Some(Level::Complete),
-            _ => None,
+            'w' => Ok(Level::Weak),
+            'b' => Ok(Level::Basic),
+            'm' => Ok(Level::Monotonic),
+            'p' => Ok(Level::Peer),
+            'c' => Ok(Level::Causal),
+            'a' => Ok(Level::Complete),
+            _ => Err(UnknownLetter),
         }
     }
+}
 
-    // Its letter, in ASCII.
-    pub fn letter(self) -> char
-        ensures value { result ≡ level self }
-        ensures ascii { result < 128 }
-    {
+impl Lettered for Level {
+    ghost letter_of = { level };
+
+    ghost by_letter = { λ b r h. h };
+
+    fn letter(self) -> char {
         match self {
             Level::Weak => 'w',
             Level::Basic => 'b',
@@ -110,5 +181,20 @@ impl Level {
             Level::Causal => 'c',
             Level::Complete => 'a',
         }
+    }
+}
+
+impl fmt::Display for Level {
+    ghost output = { λ x. Some (level_name x) };
+
+    fn fmt<W: fmt::Write>(&self, f: &mut fmt::Formatter<W>) -> fmt::Result {
+        f.write_str(match self {
+            Level::Weak => "weak",
+            Level::Basic => "basic",
+            Level::Monotonic => "monotonic",
+            Level::Peer => "peer",
+            Level::Causal => "causal",
+            Level::Complete => "complete",
+        })
     }
 }

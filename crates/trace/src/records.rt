@@ -1,8 +1,14 @@
 // What one record of a trace says, and why one is refused.
-ghost use Rattle.std.specs.Prelude.{◌≡◌};
+ghost use Rattle.std.specs.Prelude.{◌≡◌, Some};
+ghost use Rattle.trace.specs.declared.records.ReadFault.TheVariants.{BadLetter};
+ghost use Rattle.trace.specs.Names.{reason};
 ghost use Rattle.trace.specs.Refusals.{number as refusal};
+ghost use Rattle.trace.specs.Numbers.{one_number};
 
-use crate::letters::{CriterionChoice, Level, ObjectChoice};
+use crate::letters::{CriterionChoice, Level, ObjectChoice, UnknownLetter};
+use faults::Fault;
+use std::error::Error;
+use std::fmt;
 
 // One record, with its fields as they stand in the trace.
 #[derive(Clone, Copy, Debug)]
@@ -50,17 +56,41 @@ pub enum ReadFault {
     BadLetter,
 }
 
-impl ReadFault {
-    // The number under which the refusal is reported.
-    pub fn number(self) -> u8
-        ensures { result ≡ refusal self }
-    {
+impl Fault for ReadFault {
+    ghost number_of = { refusal };
+
+    ghost distinct = { one_number };
+
+    fn number(self) -> u8 {
         match self {
             ReadFault::OneByteLeft => 3,
             ReadFault::UnknownMark => 4,
             ReadFault::PastEnd => 5,
             ReadFault::BadLetter => 6,
         }
+    }
+}
+
+impl fmt::Display for ReadFault {
+    ghost output = { λ f. Some (reason f) };
+
+    fn fmt<W: fmt::Write>(&self, f: &mut fmt::Formatter<W>) -> fmt::Result {
+        f.write_str(match self {
+            ReadFault::OneByteLeft => "a single byte is left",
+            ReadFault::UnknownMark => "no record has this mark",
+            ReadFault::PastEnd => "the trace ends inside this record",
+            ReadFault::BadLetter => "an unknown letter, or a level for a kind above 7",
+        })
+    }
+}
+
+impl Error for ReadFault {}
+
+impl From<UnknownLetter> for ReadFault {
+    ghost from_gives = { λ _ f. f ≡ BadLetter };
+
+    fn from(_letter: UnknownLetter) -> ReadFault {
+        ReadFault::BadLetter
     }
 }
 

@@ -1,7 +1,10 @@
 use crate::{
-    CriterionChoice, Level, ObjectChoice, Placed, ReadFault, Reader, Record, Refusal, count_records,
+    CriterionChoice, Lettered, Level, ObjectChoice, Placed, ReadFault, Reader, Record, Refusal,
+    count_records,
 };
+use faults::Fault;
 use std::process::Abort;
+use std::test::Fail;
 
 // The record at the start of some bytes.
 fn first(bytes: &[u8]) -> Result<Option<Placed<'_>>, Refusal> {
@@ -223,6 +226,20 @@ fn each_letter_and_no_other(rt: HostRuntime) {
         };
         assert_eq!(rt; Level::from_letter(b), level);
     }
+}
+
+#[test]
+fn names_and_reasons(rt: HostRuntime) -> Result<(), Fail> {
+    let heap = rt.alloc();
+    let object = ObjectChoice::Queue.to_string(heap)?;
+    assert_eq!(rt; object.as_str(), "queue");
+    let criterion = CriterionChoice::CausalConvergence.to_string(heap)?;
+    assert_eq!(rt; criterion.as_str(), "causal convergence");
+    let level = Level::Complete.to_string(heap)?;
+    assert_eq!(rt; level.as_str(), "complete");
+    let reason = ReadFault::PastEnd.to_string(heap)?;
+    assert_eq!(rt; reason.as_str(), "the trace ends inside this record");
+    Ok(())
 }
 
 #[test]

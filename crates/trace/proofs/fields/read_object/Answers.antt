@@ -1,18 +1,11 @@
-use Rattle.std.proofs.Common.{◌≤◌, length, arith, ltb-false, ltb-true}
+use Rattle.std.proofs.Common.{refl}
+use Rattle.std.proofs.lemmas.Result.{err_from_is_err_and}
 use Rattle.trace.specs.Format.{object}
-use Rattle.trace.proofs.Marks.{past_end, bad_letter}
-use Rattle.trace.proofs.Places.{by_place}
+use Rattle.trace.specs.Letters as letter
+use Rattle.trace.proofs.Marks.{unchosen}
 use Rattle.trace.proofs.fields.read_object.Goals as goal
 
-pub returns-in_default : goal.returns-in_default
-returns-in_default c = past_end object _ (omega (arith, ltb-true))
-
-pub returns-in-Some : goal.returns-in-Some
-returns-in-Some c =
-    let whole : 1 ≤ length c.args.fields.now = omega (arith, ltb-false) in
-    let parts = by_place 1 _ whole in
-    let named = c.in-Some.ensures in
-    (cc, tt)
-
-pub returns-in-None : goal.returns-in-None
-returns-in-None c = bad_letter object _ (omega (arith, ltb-false)) c.in-None.ensures
+pub returns-in_err-choice : goal.returns-in_err-choice
+returns-in_err-choice c =
+    let p = err_from_is_err_and c.from_residual.result c.from_residual.ensures.1 in
+    rw (p.1, p.2) (unchosen letter.object object _ refl (λ h. h) _ c.in_err-choice.ensures)
