@@ -3,9 +3,8 @@ use Rattle.std.specs.Prelude.{◌≡◌, ℕ, ◌<◌, ◌≤◌, cond, List, �
 use Rattle.std.specs.declared.alloc.Global.{Global}
 use Rattle.std.specs.List.{flat_map}
 use Rattle.trace.specs.declared.records.Placed.{Placed}
-use Rattle.trace.specs.declared.records.ReadFault.{ReadFault}
-use Rattle.trace.specs.declared.records.ReadFault.TheVariants.{OneByteLeft, UnknownMark, PastEnd, BadLetter}
 use Rattle.trace.specs.declared.records.Refusal.{Refusal}
+use Rattle.trace.specs.Names.{reason}
 use Rattle.trace.specs.Reading.{Parses}
 use Rattle.trace.specs.Refusals.{number}
 use Rattle.listing.specs.declared.lines.ListFault.{ListFault}
@@ -15,13 +14,6 @@ use Rattle.listing.specs.Words.{words}
 -- the line of a record: the place where it begins, and the record in words
 abbrev pub line : Placed → List ℕ
 line p = decimal p.at ++ (codes "  " ++ (words p.record ++ codes "\n"))
-
--- a refusal in words
-abbrev pub reason : ReadFault → List ℕ
-reason OneByteLeft = codes "a single byte is left"
-reason UnknownMark = codes "no record has this mark"
-reason PastEnd = codes "the trace ends inside this record"
-reason BadLetter = codes "an unknown letter, or a level for a kind above 7"
 
 -- how many records there are
 abbrev pub count_text : ℕ → List ℕ

@@ -1,16 +1,15 @@
 -- Records in words.
-use Rattle.std.specs.Prelude.{ℕ, ◌+◌, ◌/◌, ◌%◌, ◌^◌, Bool, cond, not, ◌&&◌, List, [], ◌∷◌, ◌++◌, codes, decimal, ◌==◌, nat_lt}
+use Rattle.std.specs.Prelude.{ℕ, ◌/◌, ◌%◌, ◌^◌, Bool, false, cond, not, ◌&&◌, List, [], ◌∷◌, ◌++◌, codes, decimal, ◌==◌, nat_lt}
+use Rattle.std.specs.Fmt.{digit_glyph}
 use Rattle.std.specs.List.{range_with_len, flat_map}
 use Rattle.trace.specs.declared.letters.ObjectChoice.{ObjectChoice}
-use Rattle.trace.specs.declared.letters.ObjectChoice.TheVariants.{Map, Queue}
 use Rattle.trace.specs.declared.letters.CriterionChoice.{CriterionChoice}
-use Rattle.trace.specs.declared.letters.CriterionChoice.TheVariants.{Levels, ReadMyWrites, MonotonicReads, CausalConvergence}
 use Rattle.trace.specs.declared.letters.Level.{Level}
-use Rattle.trace.specs.declared.letters.Level.TheVariants.{Weak, Basic, Monotonic, Peer, Causal, Complete}
 use Rattle.trace.specs.declared.records.Record.{Record}
 use Rattle.trace.specs.declared.records.Record.TheVariants.{Call, Reply, Object, Criterion, Note}
 use Rattle.trace.specs.declared.records.Record.TheVariants as sort
 use Rattle.trace.specs.Letters as letter
+use Rattle.trace.specs.Names as name
 
 -- what a reply answers
 abbrev pub answer : ℕ → ℕ → List ℕ
@@ -32,17 +31,13 @@ names_below n after = flat_map (λ i. cond (named after i) (codes " " ++ decimal
 unfoldable pub names : ℕ → List ℕ
 names after = cond (after == 0) (codes " none") (names_below 16 after)
 
--- a hexadecimal digit
-abbrev pub hex : ℕ → ℕ
-hex n = cond (nat_lt n 10) (48 + n) (87 + n)
-
 -- printable ASCII, but for the quotation mark and the backslash
 abbrev pub printing : ℕ → Bool
 printing b = nat_lt 31 b && (nat_lt b 127 && (not (b == 34) && not (b == 92)))
 
 -- a byte by its number: \x and two hexadecimal digits
 abbrev pub numbered : ℕ → List ℕ
-numbered b = codes "\\x" ++ (hex (b / 16) ∷ hex (b % 16) ∷ [])
+numbered b = codes "\\x" ++ (digit_glyph false (b / 16) ∷ digit_glyph false (b % 16) ∷ [])
 
 -- a byte of a note: itself where it prints, else its number
 abbrev pub escaped : ℕ → List ℕ
@@ -51,25 +46,6 @@ escaped b = cond (printing b) (b ∷ []) (numbered b)
 -- a note's text between quotation marks
 abbrev pub quoted : List ℕ → List ℕ
 quoted text = 34 ∷ flat_map escaped text ++ 34 ∷ []
-
--- the name of each object, criterion and level
-abbrev pub name_of_object : ObjectChoice → List ℕ
-name_of_object Map = codes "map"
-name_of_object Queue = codes "queue"
-
-abbrev pub name_of_criterion : CriterionChoice → List ℕ
-name_of_criterion Levels = codes "levels"
-name_of_criterion ReadMyWrites = codes "read my writes"
-name_of_criterion MonotonicReads = codes "monotonic reads"
-name_of_criterion CausalConvergence = codes "causal convergence"
-
-abbrev pub name_of_level : Level → List ℕ
-name_of_level Weak = codes "weak"
-name_of_level Basic = codes "basic"
-name_of_level Monotonic = codes "monotonic"
-name_of_level Peer = codes "peer"
-name_of_level Causal = codes "causal"
-name_of_level Complete = codes "complete"
 
 -- the words of each sort of record
 abbrev pub call_text : ℕ → ℕ → ℕ → ℕ → ℕ → List ℕ
@@ -80,13 +56,13 @@ abbrev pub reply_text : ℕ → ℕ → ℕ → List ℕ
 reply_text thread tag value = codes "reply: thread " ++ (decimal thread ++ (codes ", " ++ answer tag value))
 
 abbrev pub object_text : ObjectChoice → List ℕ
-object_text choice = codes "object: letter " ++ (letter.object choice ∷ codes ", " ++ name_of_object choice)
+object_text choice = codes "object: letter " ++ (letter.object choice ∷ codes ", " ++ name.object choice)
 
 abbrev pub criterion_text : CriterionChoice → List ℕ
-criterion_text choice = codes "criterion: letter " ++ (letter.criterion choice ∷ codes ", " ++ name_of_criterion choice)
+criterion_text choice = codes "criterion: letter " ++ (letter.criterion choice ∷ codes ", " ++ name.criterion choice)
 
 abbrev pub level_text : ℕ → Level → List ℕ
-level_text kind l = codes "level: kind " ++ (decimal kind ++ (codes " (letter " ++ (letter.level l ∷ codes ", " ++ (name_of_level l ++ codes ")"))))
+level_text kind l = codes "level: kind " ++ (decimal kind ++ (codes " (letter " ++ (letter.level l ∷ codes ", " ++ (name.level l ++ codes ")"))))
 
 abbrev pub note_text : List ℕ → List ℕ
 note_text text = codes "note: " ++ quoted text

@@ -90,7 +90,7 @@ impl From<UnknownLetter> for ReadFault {
     ghost from_gives = { λ _ f. f ≡ BadLetter };
 
     fn from(_letter: UnknownLetter) -> ReadFault {
-        ReadFault::BadLetter
+        Self::BadLetter
     }
 }
 

@@ -6,8 +6,8 @@ use Rattle.listing.specs.Lines.{line}
 use Rattle.listing.proofs.lines.all_lines.Given as goal
 
 -- the records up to the reader's place are counted and have their lines
-abbrev pub invariant-loop-next : goal.invariant-loop-next
-invariant-loop-next l = (ps : List Placed) × Passed l.trace l.reader l.count ps × (string_bytes l.text ≡ flat_map line ps)
+abbrev pub invariant-loop-placed : goal.invariant-loop-placed
+invariant-loop-placed l = (ps : List Placed) × Passed l.trace l.reader l.count ps × (string_bytes l.text ≡ flat_map line ps)
 
-abbrev pub decreases-loop-next : goal.decreases-loop-next
-decreases-loop-next l = length l.reader.trace.now - l.reader.at
+abbrev pub decreases-loop-placed : goal.decreases-loop-placed
+decreases-loop-placed l = length l.reader.trace.now - l.reader.at
