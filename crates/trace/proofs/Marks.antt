@@ -1,11 +1,9 @@
 -- A record is refused behind its mark: no other mark is there, and what is checked earlier does not hold.
-use Rattle.std.proofs.Common.{◌≡◌, ℕ, ◌+◌, ◌-◌, ◌<◌, ◌≤◌, cond, eqb, List, [], ◌∷◌, ◌++◌, length, get_or, take, drop, Err, Result, ◌≢◌, slice_index, sym, refl, ap, ◌∙◌, subst, arith, length-take, Bor}
-use Rattle.trace.specs.declared.records.Record.{Record}
+use Rattle.std.proofs.Common.{◌≡◌, ℕ, ◌+◌, ◌<◌, ◌≤◌, cond, eqb, List, [], ◌∷◌, ◌++◌, length, get_or, take, Err, ◌≢◌, slice_index, sym, refl, ap, ◌∙◌, subst, arith, length-take}
 use Rattle.trace.specs.declared.records.ReadFault.{ReadFault}
 use Rattle.trace.specs.declared.records.ReadFault.TheVariants.{OneByteLeft, UnknownMark, PastEnd, BadLetter}
 use Rattle.trace.specs.Format.{Sort, call, reply, object, criterion, level, note, mark}
-use Rattle.trace.specs.Refusals.{Marked, size, Misnamed, Meets, Refused, Front, Chosen, number}
-use Rattle.trace.proofs.Places.{by_place}
+use Rattle.trace.specs.Refusals.{Marked, size, Misnamed, Meets, Refused, Chosen, number}
 
 -- the second bytes of the marks are all different
 abbrev sort_by : ℕ → Sort
@@ -39,13 +37,6 @@ long s fs = subst (λ m. length (m ++ fs) ≡ length fs + 2) (sym (by_letters s)
 
 pub marked_long : (s : Sort) (bs : List ℕ) → Marked s bs → 2 ≤ length bs
 marked_long s bs m = omega (arith, ap length (m ∙ by_letters s), length-take 2 bs)
-
--- what is read behind a mark is read of the whole
-pub behind_mark : (s : Sort) (bs : List ℕ) (r : Result (Record × Bor (List ℕ)) ReadFault) → 2 ≤ length bs → get_or bs 0 0 ≡ get_or (mark s) 0 0 → get_or bs 1 0 ≡ get_or (mark s) 1 0 → Front (mark s ++ take (length bs - 2) (drop 2 bs)) r → Front bs r
-behind_mark s bs r h e0 e1 front =
-    let whole : mark s ++ take (length bs - 2) (drop 2 bs) ≡ bs =
-    (ap (λ m. m ++ take (length bs - 2) (drop 2 bs)) (by_letters s) ∙ (λ i. sym e0 i ∷ sym e1 i ∷ take (length bs - 2) (drop 2 bs))) ∙ sym (by_place 2 bs h) in
-    subst (λ b. Front b r) whole front
 
 module _ (s : Sort) (fs : List ℕ) where
   pub past_end : length fs + 2 < size s (mark s ++ fs) → Refused PastEnd (mark s ++ fs)
