@@ -6,30 +6,21 @@ ghost use Rattle.listing.specs.declared.lines.ListFault.TheVariants.{Memory};
 use crate::words::Words;
 use faults::Fault;
 use std::alloc::{AllocError, Global};
-use std::error::Error;
 use std::fmt;
+use thiserror::Error;
 use trace::{Placed, Reader, Refusal};
 
 // The longest trace, in bytes.
 pub(crate) const LONGEST: usize = 4096;
 
 // Why there is no listing.
-#[derive(Debug, Drop)]
+#[derive(Debug, Drop, Error)]
 pub(crate) enum ListFault {
+    #[error("the trace is longer than 4,096 bytes")]
     TooLong,
+    #[error("there is not enough memory")]
     Memory,
 }
-
-impl fmt::Display for ListFault {
-    fn fmt<W: fmt::Write>(&self, f: &mut fmt::Formatter<W>) -> fmt::Result {
-        match self {
-            ListFault::TooLong => write!(f, "the trace is longer than 4,096 bytes"),
-            ListFault::Memory => write!(f, "there is not enough memory"),
-        }
-    }
-}
-
-impl Error for ListFault {}
 
 impl From<AllocError> for ListFault {
     ghost from_gives = { λ _ r. r ≡ Memory };

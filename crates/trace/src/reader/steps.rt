@@ -28,28 +28,33 @@ impl<'a> Reader<'a> {
         ensures trace { self.new.trace ≡ self.old.trace }
         ensures reads { Reads self.old.trace.now self.old.at result self.new.at }
     {
-        let (answer, next) = read_at(self.trace, self.at);
+        let (answer, next) = self.look();
         *self = Reader {
             trace: self.trace,
             at: next,
         };
         answer
     }
-}
 
-// What a reader at a place of a trace answers, and where it goes on.
-fn read_at<'a>(trace: &'a [u8], at: usize) -> (Result<Option<Placed<'a>>, Refusal>, usize)
-    requires { at ≤ length trace.now }
-    ensures reads { Reads trace.now at result.0 result.1 }
-    ensures within { result.1 ≤ length trace.now }
-{
-    let rest = &trace[at..];
-    if rest.is_empty() {
-        return (Ok(None), at);
-    }
-    match read_front(rest) {
-        Ok((record, behind)) => (Ok(Some(Placed { at, record })), trace.len() - behind.len()),
-        Err(fault) => (Err(Refusal { at, fault }), at),
+    // What a reader answers at its place, and where it goes on.
+    fn look(&self) -> (Result<Option<Placed<'a>>, Refusal>, usize)
+        ensures reads { Reads self.now.trace.now self.now.at result.0 result.1 }
+        ensures within { result.1 ≤ length self.now.trace.now }
+    {
+        let rest = &self.trace[self.at..];
+        if rest.is_empty() {
+            return (Ok(None), self.at);
+        }
+        match read_front(rest) {
+            Ok((record, behind)) => (
+                Ok(Some(Placed {
+                    at: self.at,
+                    record,
+                })),
+                self.trace.len() - behind.len(),
+            ),
+            Err(fault) => (Err(Refusal { at: self.at, fault }), self.at),
+        }
     }
 }
 
