@@ -9,7 +9,7 @@ use Rattle.trace.specs.declared.records.Record.{Record}
 use Rattle.trace.specs.declared.records.Record.TheVariants.{Call, Reply, Object, Criterion, Note}
 use Rattle.trace.specs.declared.records.Record.TheVariants as sort
 use Rattle.trace.specs.Letters as letter
-use Rattle.trace.specs.Names as name
+use Rattle.trace.specs.Names.{name_of_object, name_of_criterion, name_of_level}
 
 -- what a reply answers
 abbrev pub answer : ℕ → ℕ → List ℕ
@@ -56,13 +56,13 @@ abbrev pub reply_text : ℕ → ℕ → ℕ → List ℕ
 reply_text thread tag value = codes "reply: thread " ++ (decimal thread ++ (codes ", " ++ answer tag value))
 
 abbrev pub object_text : ObjectChoice → List ℕ
-object_text choice = codes "object: letter " ++ (letter.object choice ∷ codes ", " ++ name.object choice)
+object_text choice = codes "object: letter " ++ (letter.object choice ∷ codes ", " ++ name_of_object choice)
 
 abbrev pub criterion_text : CriterionChoice → List ℕ
-criterion_text choice = codes "criterion: letter " ++ (letter.criterion choice ∷ codes ", " ++ name.criterion choice)
+criterion_text choice = codes "criterion: letter " ++ (letter.criterion choice ∷ codes ", " ++ name_of_criterion choice)
 
 abbrev pub level_text : ℕ → Level → List ℕ
-level_text kind l = codes "level: kind " ++ (decimal kind ++ (codes " (letter " ++ (letter.level l ∷ codes ", " ++ (name.level l ++ codes ")"))))
+level_text kind l = codes "level: kind " ++ (decimal kind ++ (codes " (letter " ++ (letter.level l ∷ codes ", " ++ (name_of_level l ++ codes ")"))))
 
 abbrev pub note_text : List ℕ → List ℕ
 note_text text = codes "note: " ++ quoted text

@@ -10,23 +10,23 @@ use Rattle.trace.specs.declared.records.ReadFault.{ReadFault}
 use Rattle.trace.specs.declared.records.ReadFault.TheVariants.{OneByteLeft, UnknownMark, PastEnd, BadLetter}
 
 -- the name of each object, criterion and level
-abbrev pub object : ObjectChoice → List ℕ
-object Map = codes "map"
-object Queue = codes "queue"
+abbrev pub name_of_object : ObjectChoice → List ℕ
+name_of_object Map = codes "map"
+name_of_object Queue = codes "queue"
 
-abbrev pub criterion : CriterionChoice → List ℕ
-criterion Levels = codes "levels"
-criterion ReadMyWrites = codes "read my writes"
-criterion MonotonicReads = codes "monotonic reads"
-criterion CausalConvergence = codes "causal convergence"
+abbrev pub name_of_criterion : CriterionChoice → List ℕ
+name_of_criterion Levels = codes "levels"
+name_of_criterion ReadMyWrites = codes "read my writes"
+name_of_criterion MonotonicReads = codes "monotonic reads"
+name_of_criterion CausalConvergence = codes "causal convergence"
 
-abbrev pub level : Level → List ℕ
-level Weak = codes "weak"
-level Basic = codes "basic"
-level Monotonic = codes "monotonic"
-level Peer = codes "peer"
-level Causal = codes "causal"
-level Complete = codes "complete"
+abbrev pub name_of_level : Level → List ℕ
+name_of_level Weak = codes "weak"
+name_of_level Basic = codes "basic"
+name_of_level Monotonic = codes "monotonic"
+name_of_level Peer = codes "peer"
+name_of_level Causal = codes "causal"
+name_of_level Complete = codes "complete"
 
 -- a refusal in words
 abbrev pub reason : ReadFault → List ℕ

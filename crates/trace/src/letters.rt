@@ -1,7 +1,7 @@
 // The choices that a trace names by one ASCII letter each.
 ghost use Rattle.std.specs.Prelude.{◌≡◌, ◌<◌, ℕ, Some, codes};
 ghost use Rattle.trace.specs.Letters.{object, criterion, level, Named, Names, ByLetter};
-ghost use Rattle.trace.specs.Names.{object as object_name, criterion as criterion_name, level as level_name};
+ghost use Rattle.trace.specs.Names.{name_of_object, name_of_criterion, name_of_level};
 
 use std::error::Error;
 use std::fmt;
@@ -75,7 +75,7 @@ impl Lettered for ObjectChoice {
 }
 
 impl fmt::Display for ObjectChoice {
-    ghost output = { λ x. Some (object_name x) };
+    ghost output = { λ x. Some (name_of_object x) };
 
     fn fmt<W: fmt::Write>(&self, f: &mut fmt::Formatter<W>) -> fmt::Result {
         f.write_str(match self {
@@ -126,7 +126,7 @@ impl Lettered for CriterionChoice {
 }
 
 impl fmt::Display for CriterionChoice {
-    ghost output = { λ x. Some (criterion_name x) };
+    ghost output = { λ x. Some (name_of_criterion x) };
 
     fn fmt<W: fmt::Write>(&self, f: &mut fmt::Formatter<W>) -> fmt::Result {
         f.write_str(match self {
@@ -185,7 +185,7 @@ impl Lettered for Level {
 }
 
 impl fmt::Display for Level {
-    ghost output = { λ x. Some (level_name x) };
+    ghost output = { λ x. Some (name_of_level x) };
 
     fn fmt<W: fmt::Write>(&self, f: &mut fmt::Formatter<W>) -> fmt::Result {
         f.write_str(match self {
