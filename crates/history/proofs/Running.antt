@@ -1,48 +1,27 @@
 -- Actions one after another: there is one answer to each.
-use Rattle.std.proofs.Common.{◌≡◌, ℕ, ◌+◌, ◌<◌, cond, eqb, List, [], ◌∷◌, ◌++◌, length, get_or, take, set, Some, Ok, Err, Result, sym, refl, ap, ◌∙◌, subst, arith}
-use native.Mathlib.Decide.{dec_lt}
+use Rattle.std.proofs.Common.{◌≡◌, ℕ, ◌+◌, ◌<◌, List, [], ◌∷◌, ◌++◌, length, get_or, take, set, Some, Ok, Err, Result, sym, refl, ap, ◌∙◌, subst, arith}
 use Rattle.std.proofs.lemmas.List.{map-set, get_or-map, set-get_or, take_more_set}
+use Rattle.faults.proofs.Once.{refused_once}
 use Rattle.history.specs.declared.operations.Action.{Action}
 use Rattle.history.specs.declared.operations.Action.TheVariants.{Call, Reply, Clear}
 use Rattle.history.specs.declared.operations.Attempt.{Attempt}
 use Rattle.history.specs.declared.operations.HistoryFault.{HistoryFault}
-use Rattle.history.specs.declared.operations.HistoryFault.TheVariants.{UnknownThread, Full, ThreadBusy, AfterAbsent, AfterOpen, NoOpenCall, BadReply}
 use Rattle.history.specs.declared.operations.Operation.{Operation}
 use Rattle.history.specs.Limits.{limit}
 use Rattle.history.specs.Log.{at, answered}
+use Rattle.history.specs.Numbers.{one_number}
 use Rattle.history.specs.Order.{Ascending, Settled}
-use Rattle.history.specs.Refusals.{number, Judged, Refused}
+use Rattle.history.specs.Refusals.{number, Judged}
 use Rattle.history.specs.Steps.{Extends, Meets, Follows, Step, Runs, none, more, actions, Replays}
 use Rattle.history.proofs.Orders.{single, lawful, ascending_none, settled_none, ascending_push, settled_push, ascending_filled, settled_filled}
 
 -- ---- one answer
 
--- the fault with a number
-abbrev numbered : ℕ → HistoryFault
-numbered n = cond (eqb n 7) UnknownThread (cond (eqb n 8) Full (cond (eqb n 9) ThreadBusy (cond (eqb n 10) AfterAbsent (cond (eqb n 11) AfterOpen (cond (eqb n 12) NoOpenCall BadReply)))))
-
-numbered_number : (f : HistoryFault) → numbered (number f) ≡ f
-numbered_number UnknownThread = refl
-numbered_number Full = refl
-numbered_number ThreadBusy = refl
-numbered_number AfterAbsent = refl
-numbered_number AfterOpen = refl
-numbered_number NoOpenCall = refl
-numbered_number BadReply = refl
-
-refused_once : (Met : HistoryFault → Type 0) (f g : HistoryFault) → Refused Met f → Refused Met g → f ≡ g
-refused_once Met f g a b = go (dec_lt (number f) (number g)) (dec_lt (number g) (number f))
-  where
-    go : Dec (number f < number g) → Dec (number g < number f) → f ≡ g
-    go (yes l) d = absurd (b.first f l a.holds)
-    go (no n) (yes l) = absurd (a.first g l b.holds)
-    go (no n) (no m) = let e : number f ≡ number g = omega arith in sym (numbered_number f) ∙ ap numbered e ∙ numbered_number g
-
 judged_once : (Met : HistoryFault → Type 0) (r s : Result Unit HistoryFault) → Judged Met r → Judged Met s → r ≡ s
 judged_once Met (Ok u) (Ok v) a b = refl
 judged_once Met (Ok u) (Err g) a b = absurd (a g b.holds)
 judged_once Met (Err f) (Ok v) a b = absurd (b f a.holds)
-judged_once Met (Err f) (Err g) a b = ap Err (refused_once Met f g a b)
+judged_once Met (Err f) (Err g) a b = ap Err (refused_once number Met one_number f g a b)
 
 -- ---- one next log
 
