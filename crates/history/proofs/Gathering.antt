@@ -1,17 +1,53 @@
 -- Loops that gather a set.
-use Rattle.std.proofs.Common.{◌≡◌, ℕ, ◌+◌, ◌<◌, ◌≤◌, ◌⊎◌, ◌↔◌, List, length, Some, None, sym, ◌∙◌, subst, inl, inr, arith}
+use Rattle.std.proofs.Common.{◌≡◌, ℕ, Bool, true, false, Decides, refl, ◌+◌, ◌<◌, ◌≤◌, ◌⊎◌, ◌↔◌, List, length, Some, None, sym, ◌∙◌, subst, inl, inr, arith}
 use native.Mathlib.Decide.{ℕ_discrete, dec_lt}
+use Rattle.std.proofs.lemmas.Bool.{false≢true}
 use Rattle.std.proofs.lemmas.List.{get_or_past}
+use Rattle.std.specs.Borrow.{Bor}
+use Rattle.std.specs.Fn.{Shared, FnReturnsAt}
+use Rattle.history.specs.declared.operations.Operation.{Operation}
 use Rattle.history.specs.declared.opset.Members.{Members}
 use Rattle.history.specs.declared.opset.OpSet.{OpSet}
+use Rattle.history.specs.Log.{at}
 use Rattle.history.specs.Members.{Gives}
-use Rattle.history.specs.Sets.{Has, Joins, Next}
+use Rattle.history.specs.Sets.{Has, Adds, Joins, Next, Picks}
 use Rattle.history.specs.Table.{row, Closes}
 use Rattle.history.proofs.Membership.{none_has}
 
--- a set has those below n with a property
-abbrev pub Gathered : (ℕ → Type 0) → ℕ → ℕ → Type 0
-Gathered P n s = (x : ℕ) → Has s x ↔ (P x × (x < n))
+-- the next number is one for which the test says true
+pub picks_more : (n : ℕ) (Says : ℕ → Bool → Type 0) (s t : ℕ) → n < 16 → Says n true → Adds s n t → Picks n Says s → Picks (n + 1) Says t
+picks_more n Says s t l says adds picks x = (below, at (dec_lt x n))
+  where
+    below : Has t x → x < n + 1
+    below h = elim ((adds x).0 h) [ inl a ↦ let m = (picks x).0 a in omega arith | inr e ↦ let m = e.0 in omega arith ]
+
+    at : Dec (x < n) → x < n + 1 → (b : Bool) × Says x b × Decides b (Has t x)
+    at (yes m) k =
+        let p = (picks x).1 m in
+        (p.0, p.1, (λ e. (adds x).1 (inl (p.2.0 e)), λ h. elim ((adds x).0 h) [ inl a ↦ p.2.1 a | inr e ↦ absurd (let q = e.0 in omega arith) ]))
+    at (no m) k =
+        let e : x ≡ n = omega arith in
+        (true, subst (λ y. Says y true) (sym e) says, (λ _. (adds x).1 (inr (e, l)), λ _. refl))
+
+-- or one for which it says false
+pub picks_less : (n : ℕ) (Says : ℕ → Bool → Type 0) (s : ℕ) → Says n false → Picks n Says s → Picks (n + 1) Says s
+picks_less n Says s says picks x = (λ h. let m = (picks x).0 h in omega arith, at (dec_lt x n))
+  where
+    at : Dec (x < n) → x < n + 1 → (b : Bool) × Says x b × Decides b (Has s x)
+    at (yes m) k = (picks x).1 m
+    at (no m) k =
+        let e : x ≡ n = omega arith in
+        (false, subst (λ y. Says y false) (sym e) says, (λ f. absurd (false≢true f), λ h. absurd (m ((picks x).0 h))))
+
+-- where the test decides a property, these are the operations that have it
+pub picks_exact : {F : Type 0} (g : Shared F (Bor Operation × Unit {0}) Bool) (f : F) (log : List Operation) (P : Operation → Type 0) (s : ℕ) → ((o : Bor Operation) (b : Bool) → g.post f (o, tt) b → Decides b (P o.now)) → Picks (length log) (λ x. FnReturnsAt g f (at log x)) s → (x : ℕ) → Has s x ↔ ((x < length log) × P (at log x))
+picks_exact g f log P s decides picks x = (
+  λ h. let l = (picks x).0 h in let p = (picks x).1 l in (l, (at_x p.0 p.1).0 (p.2.1 h)),
+  λ q. let p = (picks x).1 q.0 in p.2.0 ((at_x p.0 p.1).1 q.1),
+)
+  where
+    at_x : (b : Bool) → FnReturnsAt g f (at log x) b → Decides b (P (at log x))
+    at_x b r = subst (λ o. Decides b (P o)) r.shows (decides r.shown b r.says.met)
 
 -- a set with all that a table has for its members below n
 abbrev pub ClosedBelow : ℕ → ℕ → List OpSet → ℕ → Type 0
@@ -42,9 +78,6 @@ closed_more n z direct table all more next closed join x = (there, back)
 -- past the table there is nothing
 pub row_past : (table : List OpSet) (x y : ℕ) → length table ≤ y → Has (row table y) x → ⊥
 row_past table x y l h = none_has x (subst (λ s. Has s.bits x) (get_or_past table y (record { bits = 0 }) l) h)
-
-pub joins_past : (s z : ℕ) (table : List OpSet) → length table ≤ z → Joins s (row table z) s
-joins_past s z table l x = (inl, λ h. elim h [ inl a ↦ a | inr b ↦ absurd (row_past table x z l b) ])
 
 pub closed_all : (n direct : ℕ) (table : List OpSet) (all : ℕ) → Next direct n None → ClosedBelow n direct table all → Closes direct table all
 closed_all n direct table all none closed x = (

@@ -9,6 +9,8 @@ use crate::limits::LIMIT;
 use crate::operations::Operation;
 use crate::opset::OpSet;
 
+mod gather;
+mod refusals;
 mod steps;
 
 // The operations in the order in which their calls were accepted, and for each the set of those that happen before it.

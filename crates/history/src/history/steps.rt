@@ -10,11 +10,9 @@ ghost use Rattle.history.specs.Refusals.{CallMeets};
 ghost use Rattle.history.specs.Steps.{Step};
 
 use crate::bounded::BoundedList;
-use crate::gather::before_call;
 use crate::history::History;
 use crate::operations::{Call, HistoryFault, Operation};
 use crate::opset::OpSet;
-use crate::refusals::{may_call, may_reply};
 
 impl History {
     // A history without operations.
@@ -45,7 +43,7 @@ impl History {
         ensures step { Step (log self.old) (calling call) result (log self.new) }
         ensures whole { OnErr result (self.new ≡ self.old) }
     {
-        may_call(self.operations(), call)?;
+        self.may_call(call)?;
         *self = with_call(*self, call);
         Ok(())
     }
@@ -55,7 +53,7 @@ impl History {
         ensures step { Step (log self.old) (replying thread reply) result (log self.new) }
         ensures whole { OnErr result (self.new ≡ self.old) }
     {
-        let x = may_reply(self.operations(), thread, reply)?;
+        let x = self.may_reply(thread, reply)?;
         *self = with_reply(*self, x, reply);
         Ok(())
     }
@@ -103,12 +101,7 @@ fn recorded(history: &History) -> &[Operation]
 fn kept_before(history: &History, y: usize) -> OpSet
     ensures { Precedes (log history.now) y result.bits }
 {
-    let before = history.before.as_slice();
-    if y < before.len() {
-        before[y]
-    } else {
-        OpSet::new()
-    }
+    history.kept(y)
 }
 
 // The history with a call more.
@@ -116,11 +109,7 @@ fn with_call(history: History, call: Call) -> History
     requires { (f : Fault) → CallMeets limit (log history) call f → ⊥ }
     ensures { log result ≡ log history ++ opened call ∷ [] }
 {
-    let before = before_call(
-        history.operations.as_slice(),
-        history.before.as_slice(),
-        call,
-    );
+    let before = history.before_call(call);
     History {
         operations: history.operations.with(Operation { call, reply: None }),
         before: history.before.with(before),

@@ -2,7 +2,6 @@ use Rattle.std.proofs.Common.{[], ◌∷◌, ◌++◌, sym, subst, arith, lit<}
 use Rattle.history.specs.Bounded.{items}
 use Rattle.history.specs.Limits.{limit}
 use Rattle.history.specs.Log.{opened}
-use Rattle.history.specs.Table.{Reaches}
 use Rattle.history.proofs.Keeping.{Kept, kept, kept_push, room}
 use Rattle.history.proofs.history.steps.with_call.Goals as goal
 
@@ -23,7 +22,6 @@ invariant_of-result c =
     let log = items h.operations in
     let table = items h.before in
     let before = c.before_call-before.result in
-    let reaches = subst (λ l. Reaches l call table before.bits) c.as_slice.ensures (subst (λ t. Reaches c.as_slice.result.now call t before.bits) c.as_slice-2.ensures c.before_call-before.ensures) in
     subst (λ l. Kept l (items c.with-2.result)) (sym c.with.ensures)
     (subst (λ t. Kept (log ++ opened call ∷ []) t) (sym c.with-2.ensures)
-    (kept_push limit log table call c.requires (kept h) before reaches))
+    (kept_push limit log table call c.requires (kept h) before c.before_call-before.ensures))
