@@ -6,7 +6,7 @@ use crate::opset::OpSet;
 use faults::Fault;
 
 // A call by a thread: its kind, its arguments, and the operations that it names as having ended before it.
-#[derive(Clone, Copy, Debug, PartialEq)]
+#[derive(Clone, Copy, Debug, Default, PartialEq)]
 pub struct Call {
     pub thread: u8,
     pub kind: u8,
@@ -16,7 +16,7 @@ pub struct Call {
 }
 
 // A call with its reply, a tag and a value; it is open while it has none.
-#[derive(Clone, Copy, Debug, PartialEq)]
+#[derive(Clone, Copy, Debug, Default, PartialEq)]
 pub struct Operation {
     pub call: Call,
     pub reply: Option<(u8, u16)>,

@@ -66,25 +66,13 @@ impl History {
     }
 }
 
-// What stands in a slot that holds no operation.
-fn filler() -> Call {
-    Call {
-        thread: 0,
-        kind: 0,
-        a: 0,
-        b: 0,
-        after: OpSet::new(),
-    }
-}
-
 // No operations in any slot.
 fn empty() -> History
     ensures { log result ≡ [] }
 {
-    let call = filler();
     History {
-        operations: BoundedList::new(Operation { call, reply: None }),
-        before: BoundedList::new(OpSet::new()),
+        operations: BoundedList::new(Operation::default()),
+        before: BoundedList::new(OpSet::default()),
     }
 }
 

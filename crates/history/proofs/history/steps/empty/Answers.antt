@@ -5,5 +5,5 @@ use Rattle.history.proofs.history.steps.empty.Goals as goal
 
 pub invariant_of-result : goal.invariant_of-result
 invariant_of-result c =
-    subst (λ l. Kept l (items c.new-3.result)) (sym c.new.ensures)
-    (subst (λ t. Kept [] t) (sym c.new-3.ensures) kept_none)
+    subst (λ l. Kept l (items c.new-2.result)) (sym c.new.ensures)
+    (subst (λ t. Kept [] t) (sym c.new-2.ensures) kept_none)
