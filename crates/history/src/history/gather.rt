@@ -1,7 +1,6 @@
 // Sets of operations, gathered from the log.
 ghost use Rattle.std.specs.Prelude.{◌≡◌, ℕ, ◌↔◌, length};
 ghost use Rattle.std.specs.Fn.{FnReturnsAt};
-ghost use Rattle.history.specs.Bounded.{items};
 ghost use Rattle.history.specs.Log.{at, By, Open};
 ghost use Rattle.history.specs.Recorded.{log};
 ghost use Rattle.history.specs.Sets.{Has, Picks};
@@ -49,14 +48,14 @@ impl History {
 
     // What is before a call that is to come: the operations linked to it, and all that is before these.
     pub(crate) fn before_call(&self, call: Call) -> OpSet
-        ensures { Reaches (log self.now) call (items self.now.before) result.bits }
+        ensures { Reaches (log self.now) call self.now.before result.bits }
     {
         self.with_all_before(self.linked_operations(call))
     }
 
     // Some operations, and all that is before one of them.
     fn with_all_before(&self, direct: OpSet) -> OpSet
-        ensures { Closes direct.bits (items self.now.before) result.bits }
+        ensures { Closes direct.bits self.now.before result.bits }
     {
         let mut all = direct;
         for z in direct.iter() {
@@ -67,9 +66,8 @@ impl History {
 
     // The set that is kept for operation y; empty where there is no operation y.
     pub(crate) fn kept(&self, y: usize) -> OpSet
-        ensures { result.bits ≡ row (items self.now.before) y }
+        ensures { result.bits ≡ row self.now.before y }
     {
-        let before = self.before.as_slice();
-        before.get(y).copied().unwrap_or_default()
+        self.before.get(y).copied().unwrap_or_default()
     }
 }

@@ -11,6 +11,7 @@ ghost use Rattle.history.specs.Steps.{Step};
 
 use crate::bounded::BoundedList;
 use crate::history::History;
+use crate::limits::LIMIT;
 use crate::operations::{Call, HistoryFault, Operation};
 use crate::opset::OpSet;
 
@@ -72,7 +73,7 @@ fn empty() -> History
 {
     History {
         operations: BoundedList::new(Operation::default()),
-        before: BoundedList::new(OpSet::default()),
+        before: [OpSet::default(); LIMIT],
     }
 }
 
@@ -97,10 +98,11 @@ fn with_call(history: History, call: Call) -> History
     requires { (f : Fault) → CallMeets limit (log history) call f → ⊥ }
     ensures { log result ≡ log history ++ opened call ∷ [] }
 {
-    let before = history.before_call(call);
+    let mut before = history.before;
+    before[history.operations().len()] = history.before_call(call);
     History {
         operations: history.operations.with(Operation { call, reply: None }),
-        before: history.before.with(before),
+        before,
     }
 }
 

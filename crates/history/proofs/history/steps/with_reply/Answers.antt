@@ -9,5 +9,5 @@ invariant_of-result c =
     let h = c.args.history in
     let x = c.args.x in
     let e = ap (λ l. set (items h.operations) x (answered (at l x) c.args.reply)) c.as_slice.ensures in
-    subst (λ l. Kept l (items h.before)) (sym (c.replaced.ensures ∙ e))
-    (kept_filled (items h.operations) (items h.before) x c.args.reply (kept h))
+    subst (λ l. Kept l h.before) (sym (c.replaced.ensures ∙ e))
+    (kept_filled (items h.operations) h.before x c.args.reply (kept h))
