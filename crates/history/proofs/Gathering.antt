@@ -2,7 +2,6 @@
 use Rattle.std.proofs.Common.{◌≡◌, ℕ, Bool, true, false, Decides, refl, ◌+◌, ◌<◌, ◌≤◌, ◌⊎◌, ◌↔◌, List, length, Some, None, sym, ◌∙◌, subst, inl, inr, arith}
 use native.Mathlib.Decide.{ℕ_discrete, dec_lt}
 use Rattle.std.proofs.lemmas.Bool.{false≢true}
-use Rattle.std.proofs.lemmas.List.{get_or_past}
 use Rattle.std.specs.Borrow.{Bor}
 use Rattle.std.specs.Fn.{Shared, FnReturnsAt}
 use Rattle.history.specs.declared.operations.Operation.{Operation}
@@ -12,7 +11,6 @@ use Rattle.history.specs.Log.{at}
 use Rattle.history.specs.Members.{Gives}
 use Rattle.history.specs.Sets.{Has, Adds, Joins, Next, Picks}
 use Rattle.history.specs.Table.{row, Closes}
-use Rattle.history.proofs.Membership.{none_has}
 
 -- the next number is one for which the test says true
 pub picks_more : (n : ℕ) (Says : ℕ → Bool → Type 0) (s t : ℕ) → n < 16 → Says n true → Adds s n t → Picks n Says s → Picks (n + 1) Says t
@@ -74,10 +72,6 @@ closed_more n z direct table all more next closed join x = (there, back)
     back : Has direct x ⊎ ((y : ℕ) × (Has direct y × (y < z + 1)) × Has (row table y) x) → Has more x
     back (inl d) = (join x).1 (inl ((closed x).1 (inl d)))
     back (inr s) = found s.0 s.1.0 s.1.1 s.2 (dec_lt s.0 n) (ℕ_discrete s.0 z)
-
--- past the table there is nothing
-pub row_past : (table : List OpSet) (x y : ℕ) → length table ≤ y → Has (row table y) x → ⊥
-row_past table x y l h = none_has x (subst (λ s. Has s.bits x) (get_or_past table y (record { bits = 0 }) l) h)
 
 pub closed_all : (n direct : ℕ) (table : List OpSet) (all : ℕ) → Next direct n None → ClosedBelow n direct table all → Closes direct table all
 closed_all n direct table all none closed x = (
