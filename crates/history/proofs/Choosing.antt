@@ -2,11 +2,6 @@
 use Rattle.std.proofs.Common.{◌≡◌, ℕ, zero, suc, ◌<◌, ◌⊎◌, subst, inl, inr, arith}
 use native.Mathlib.Decide.{dec_lt}
 
-pub both? : {A B : Type 0} → Dec A → Dec B → Dec (A × B)
-both? (yes a) (yes b) = yes (a, b)
-both? (yes a) (no d) = no (λ p. d p.1)
-both? (no d) b = no (λ p. d p.0)
-
 pub either? : {A B : Type 0} → Dec A → Dec B → Dec (A ⊎ B)
 either? (yes a) b = yes (inl a)
 either? (no d) (yes b) = yes (inr b)

@@ -37,16 +37,6 @@ picks_less n Says s says picks x = (λ h. let m = (picks x).0 h in omega arith, 
         let e : x ≡ n = omega arith in
         (false, subst (λ y. Says y false) (sym e) says, (λ f. absurd (false≢true f), λ h. absurd (m ((picks x).0 h))))
 
--- where the test decides a property, these are the operations that have it
-pub picks_exact : {F : Type 0} (g : Shared F (Bor Operation × Unit {0}) Bool) (f : F) (log : List Operation) (P : Operation → Type 0) (s : ℕ) → ((o : Bor Operation) (b : Bool) → g.post f (o, tt) b → Decides b (P o.now)) → Picks (length log) (λ x. FnReturnsAt g f (at log x)) s → (x : ℕ) → Has s x ↔ ((x < length log) × P (at log x))
-picks_exact g f log P s decides picks x = (
-  λ h. let l = (picks x).0 h in let p = (picks x).1 l in (l, (at_x p.0 p.1).0 (p.2.1 h)),
-  λ q. let p = (picks x).1 q.0 in p.2.0 ((at_x p.0 p.1).1 q.1),
-)
-  where
-    at_x : (b : Bool) → FnReturnsAt g f (at log x) b → Decides b (P (at log x))
-    at_x b r = subst (λ o. Decides b (P o)) r.shows (decides r.shown b r.says.met)
-
 -- a set with all that a table has for its members below n
 abbrev pub ClosedBelow : ℕ → ℕ → List OpSet → ℕ → Type 0
 ClosedBelow n direct table all = (x : ℕ) → Has all x ↔ (Has direct x ⊎ ((z : ℕ) × (Has direct z × (z < n)) × Has (row table z) x))
@@ -72,15 +62,6 @@ closed_more n z direct table all more next closed join x = (there, back)
     back : Has direct x ⊎ ((y : ℕ) × (Has direct y × (y < z + 1)) × Has (row table y) x) → Has more x
     back (inl d) = (join x).1 (inl ((closed x).1 (inl d)))
     back (inr s) = found s.0 s.1.0 s.1.1 s.2 (dec_lt s.0 n) (ℕ_discrete s.0 z)
-
-pub closed_all : (n direct : ℕ) (table : List OpSet) (all : ℕ) → Next direct n None → ClosedBelow n direct table all → Closes direct table all
-closed_all n direct table all none closed x = (
-  λ h. elim ((closed x).0 h) [ inl a ↦ inl a | inr s ↦ inr (s.0, s.1.0, s.2) ],
-  λ s. elim s [ inl a ↦ (closed x).1 (inl a) | inr q ↦ (closed x).1 (inr (q.0, (q.1, low q.0 q.1), q.2)) ],
-)
-  where
-    low : (z : ℕ) → Has direct z → z < n
-    low z h = elim (dec_lt z n) [ yes l ↦ l | no m ↦ absurd (none z (omega arith) h) ]
 
 -- one turn of a loop over the members
 pub closed_turn : (s t : Members) (z : ℕ) (direct : OpSet) (table : List OpSet) (all more : ℕ) → s.set ≡ direct → Gives s (Some z) t → ClosedBelow s.from direct.bits table all → Joins all (row table z) more → (t.set ≡ direct) × ClosedBelow t.from direct.bits table more

@@ -1,6 +1,5 @@
 -- What a history keeps true of its operations and its sets.
-use Rattle.std.proofs.Common.{◌≡◌, ℕ, ◌<◌, List, [], ◌∷◌, ◌++◌, length, set, replicate, subst, arith}
-use native.Mathlib.Decide.{dec_lt}
+use Rattle.std.proofs.Common.{◌≡◌, ℕ, ◌<◌, ◌≤◌, List, [], ◌∷◌, ◌++◌, length, set, replicate, subst, arith}
 use Rattle.history.specs.declared.history.History.{History}
 use Rattle.history.specs.declared.operations.Call.{Call}
 use Rattle.history.specs.declared.operations.HistoryFault.{HistoryFault}
@@ -59,4 +58,4 @@ kept_filled log table i reply k = record {
 
 -- there is room where a call is accepted
 pub room : (limit : ℕ) (log : List Operation) (c : Call) → ((f : HistoryFault) → CallMeets limit log c f → ⊥) → length log < limit
-room limit log c accepted = elim (dec_lt (length log) limit) [ yes l ↦ l | no n ↦ absurd (accepted Full (omega arith)) ]
+room limit log c accepted = let not_full : limit ≤ length log → ⊥ = accepted Full in omega arith

@@ -1,9 +1,9 @@
 -- The laws of sets as numbers, in terms of their members.
-use Rattle.std.proofs.Common.{◌≡◌, ℕ, ◌/◌, ◌%◌, ◌^◌, ◌<◌, eqb, ◌⊎◌, ◌↔◌, Decides, sym, ◌∙◌, subst, inl, inr, arith}
-use native.Mathlib.Decide.{ℕ_discrete, dec_lt}
+use Rattle.std.proofs.Common.{◌≡◌, ℕ, ◌/◌, ◌%◌, ◌^◌, ◌<◌, ◌≤◌, eqb, ◌⊎◌, ◌↔◌, Decides, sym, ◌∙◌, subst, inl, inr, arith}
+use native.Mathlib.Decide.{ℕ_discrete}
 use lib.Bits.{bit_and, bit_or}
 use Rattle.std.proofs.lemmas.Bool.Decides.{Decides-eqb, Decides-like}
-use Rattle.std.proofs.lemmas.Nat.Bits.{shr_and_one, bit_at_and, bit_at_or, bit_at-zero, bit_at-lt, bit_at-pow_same, bit_at-pow_other, bit_at_above, same_from_bits}
+use Rattle.std.proofs.lemmas.Nat.Bits.{bit_at_and, bit_at_or, bit_at-zero, bit_at-lt, bit_at-pow_same, bit_at-pow_other, bit_at_above, same_from_bits}
 use Rattle.history.specs.Sets.{Has, Within, Empty, Joins, Meets}
 
 pub union_joins : (s t : ℕ) → Joins s t (bit_or s t)
@@ -18,7 +18,7 @@ intersection_meets s t j = (λ h. (omega (arith, bit_at_and s t j), omega (arith
 
 -- a number below 2 to the power k has only members below k
 pub has_below : (k s i : ℕ) → s < 2 ^ k → Has s i → i < k
-has_below k s i l h = elim (dec_lt i k) [ yes m ↦ m | no n ↦ absurd (omega (arith, bit_at_above s k i l (omega arith))) ]
+has_below k s i l h = let not_above : k ≤ i → ⊥ = λ m. omega (arith, bit_at_above s k i l m) in omega arith
 
 -- the set of i alone
 only_has : (i j : ℕ) → Has (2 ^ i) j ↔ (j ≡ i)
@@ -45,9 +45,6 @@ same_members s t f g = same_from_bits s t (λ i. digit i (ℕ_discrete (s / 2 ^ 
     digit i (no n) (no m) = omega (arith, bit_at-lt s i, bit_at-lt t i)
 
 -- the tests of the code
-pub digit_decides : (s i : ℕ) → Decides (eqb (bit_and (s / 2 ^ i) 1) 1) (Has s i)
-digit_decides s i = subst (λ v. Decides (eqb v 1) (Has s i)) (sym (shr_and_one s i)) (Decides-eqb (s / 2 ^ i % 2) 1)
-
 pub within_decides : (s t : ℕ) → Decides (eqb (bit_and s t) s) (Within s t)
 within_decides s t =
     Decides-like (eqb (bit_and s t) s)

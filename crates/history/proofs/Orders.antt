@@ -1,6 +1,8 @@
 -- What happens before what, as a log grows.
-use Rattle.std.proofs.Common.{◌≡◌, ℕ, zero, suc, ◌<◌, ◌≤◌, ◌≢◌, ◌⊎◌, ◌↔◌, List, [], ◌∷◌, ◌++◌, length, set, None, sym, refl, ap, ◌∙◌, subst, inl, inr, arith, length-set}
+use Rattle.std.proofs.Common.{◌≡◌, ℕ, zero, suc, ◌<◌, ◌≤◌, ◌≢◌, ◌⊎◌, ⊎_elim, ◌↔◌, List, [], ◌∷◌, ◌++◌, length, set, None, sym, refl, ap, ◌∙◌, subst, inl, inr, arith, length-set}
+use mathlib.Core.Logic.Dec.{and}
 use native.Mathlib.Decide.{ℕ_discrete, dec_lt}
+use Rattle.std.proofs.lemmas.Bool.{cases_order}
 use Rattle.std.proofs.lemmas.List.{get_or_append_left, get_or_push, get_or-set_same, get_or-set_other, length_push}
 use Rattle.history.specs.declared.operations.Call.{Call}
 use Rattle.history.specs.declared.operations.HistoryFault.{HistoryFault}
@@ -11,7 +13,7 @@ use Rattle.history.specs.Order.{Before, program, named, through, Ascending, Sett
 use Rattle.history.specs.Refusals.{CallMeets}
 use Rattle.history.specs.Sets.{Has}
 use Rattle.history.specs.Table.{Linked}
-use Rattle.history.proofs.Choosing.{both?, either?, some_below}
+use Rattle.history.proofs.Choosing.{either?, some_below}
 
 -- y is in the log
 pub held : (log : List Operation) {x y : ℕ} → Before log x y → y < length log
@@ -27,12 +29,11 @@ pub settled_none : Settled []
 settled_none x y p = absurd (omega (arith, held [] p))
 
 pub single : (log : List Operation) → Settled log → Single log
-single log settled t x y b d o p = go (dec_lt x y) (dec_lt y x)
-  where
-    go : Dec (x < y) → Dec (y < x) → x ≡ y
-    go (yes l) r = absurd ((settled x y (program l d.0 (b.1 ∙ sym d.1))).1 o.1)
-    go (no n) (yes l) = absurd ((settled y x (program l b.0 (d.1 ∙ sym b.1))).1 p.1)
-    go (no n) (no m) = omega arith
+single log settled t x y b d o p =
+    ⊎_elim
+    (λ e. e)
+    (⊎_elim (λ l. absurd ((settled x y (program l d.0 (b.1 ∙ sym d.1))).1 o.1)) (λ l. absurd ((settled y x (program l b.0 (d.1 ∙ sym b.1))).1 p.1)))
+    (cases_order x y)
 
 pub lawful : (log : List Operation) → Ascending log → Settled log → Lawful log
 lawful log ascending settled = record {
@@ -63,8 +64,8 @@ last_link log {x} {y} (through p q) =
 
 direct? : (log : List Operation) (x y : ℕ) → Dec (Direct log x y)
 direct? log x y =
-    both? (dec_lt y (length log))
-    (either? (both? (dec_lt x y) (ℕ_discrete (at log x).call.thread (at log y).call.thread)) (ℕ_discrete _ 1))
+    and (dec_lt y (length log))
+    (either? (and (dec_lt x y) (ℕ_discrete (at log x).call.thread (at log y).call.thread)) (ℕ_discrete _ 1))
 
 -- where before ascends, it can be decided
 pub before? : (log : List Operation) → Ascending log → (x y : ℕ) → Dec (Before log x y)
@@ -79,7 +80,7 @@ before? log ascending x y = upto (suc y) y (omega arith)
 
     upto : (n y : ℕ) → y < n → Dec (Before log x y)
     upto zero y l = absurd (omega arith)
-    upto (suc n) y l = whole y (some_below (Last y) y (λ z m. both? (direct? log z y) (either? (ℕ_discrete x z) (upto n z (omega arith)))))
+    upto (suc n) y l = whole y (some_below (Last y) y (λ z m. and (direct? log z y) (either? (ℕ_discrete x z) (upto n z (omega arith)))))
 
 -- ---- a log that begins with the calls of another
 
@@ -124,11 +125,7 @@ begins_push log o = record { long = omega (arith, length_push log o); calls = λ
 
 -- an operation of the longer log is the new one or an old one
 pub new_or_old : (log : List Operation) (o : Operation) (y : ℕ) → y < length (log ++ o ∷ []) → (y ≡ length log) ⊎ (y < length log)
-new_or_old log o y l = go (dec_lt y (length log))
-  where
-    go : Dec (y < length log) → (y ≡ length log) ⊎ (y < length log)
-    go (yes m) = inr m
-    go (no n) = inl (omega (arith, length_push log o))
+new_or_old log o y l = elim (ℕ_discrete y (length log)) [ yes e ↦ inl e | no d ↦ inr (omega (arith, length_push log o)) ]
 
 -- a call that is accepted names operations that are held and answered, and its thread is idle
 module _ (limit : ℕ) (log : List Operation) (c : Call) (accepted : (f : HistoryFault) → CallMeets limit log c f → ⊥) where
@@ -136,7 +133,7 @@ module _ (limit : ℕ) (log : List Operation) (c : Call) (accepted : (f : Histor
   grown = log ++ opened c ∷ []
 
   names_held : (x : ℕ) → Has c.after.bits x → x < length log
-  names_held x h = elim (dec_lt x (length log)) [ yes l ↦ l | no n ↦ absurd (accepted AfterAbsent (x, h, omega arith)) ]
+  names_held x h = let not_absent : length log ≤ x → ⊥ = λ l. accepted AfterAbsent (x, h, l) in omega arith
 
   -- a link to the new operation
   new_link : (x : ℕ) → Direct grown x (length log) ↔ Linked log c x

@@ -1,6 +1,6 @@
-use Rattle.std.proofs.Common.{None, subst}
-use Rattle.history.specs.Sets.{Next, Joins}
-use Rattle.history.proofs.Gathering.{closed_turn, closed_all}
+use Rattle.std.proofs.Common.{subst}
+use Rattle.history.specs.Sets.{Joins}
+use Rattle.history.proofs.Gathering.{closed_turn}
 use Rattle.history.proofs.history.History.with_all_before.Goals as goal
 
 pub loop-z-preserved : goal.loop-z-preserved
@@ -10,10 +10,3 @@ loop-z-preserved c =
     let more = c.union-all.result.bits in
     let t = closed_turn c.loop-z.z-iterator c.next.new.self c.in-Some.z c.args.direct c.args.self.now.before all more i.2 c.in-Some.ensures.steps i.3 (subst (λ s. Joins all s more) c.kept.ensures c.union-all.ensures) in
     (tt, tt, t.0, t.1)
-
-pub returns : goal.returns
-returns c =
-    let i = c.loop-z.invariant in
-    let from = c.loop-z.z-iterator.from in
-    let none = subst (λ d. Next d.bits from None) i.2 c.in-None.ensures.steps.1 in
-    closed_all from c.args.direct.bits c.args.self.now.before c.loop-z.all.bits none i.3
