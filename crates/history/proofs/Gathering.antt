@@ -1,16 +1,12 @@
 -- Loops that gather a set.
-use Rattle.std.proofs.Common.{◌≡◌, ℕ, Bool, true, false, Decides, refl, ◌+◌, ◌<◌, ◌≤◌, ◌⊎◌, ◌↔◌, List, length, Some, None, sym, ◌∙◌, subst, inl, inr, arith}
+use Rattle.std.proofs.Common.{◌≡◌, ℕ, Bool, true, false, Decides, refl, ◌+◌, ◌<◌, ◌⊎◌, ◌↔◌, List, Some, sym, ◌∙◌, subst, inl, inr, arith}
 use native.Mathlib.Decide.{ℕ_discrete, dec_lt}
 use Rattle.std.proofs.lemmas.Bool.{false≢true}
-use Rattle.std.specs.Borrow.{Bor}
-use Rattle.std.specs.Fn.{Shared, FnReturnsAt}
-use Rattle.history.specs.declared.operations.Operation.{Operation}
 use Rattle.history.specs.declared.opset.Members.{Members}
 use Rattle.history.specs.declared.opset.OpSet.{OpSet}
-use Rattle.history.specs.Log.{at}
 use Rattle.history.specs.Members.{Gives}
 use Rattle.history.specs.Sets.{Has, Adds, Joins, Next, Picks}
-use Rattle.history.specs.Table.{row, Closes}
+use Rattle.history.specs.Table.{row}
 
 -- the next number is one for which the test says true
 pub picks_more : (n : ℕ) (Says : ℕ → Bool → Type 0) (s t : ℕ) → n < 16 → Says n true → Adds s n t → Picks n Says s → Picks (n + 1) Says t

@@ -2,6 +2,7 @@
 ghost use Rattle.std.specs.Prelude.{◌≡◌, ℕ, ◌↔◌, length};
 ghost use Rattle.std.specs.Fn.{FnReturnsAt};
 ghost use Rattle.history.specs.Log.{at, By, Open};
+ghost use Rattle.history.specs.Order.{Precedes};
 ghost use Rattle.history.specs.Recorded.{log};
 ghost use Rattle.history.specs.Sets.{Has, Picks};
 ghost use Rattle.history.specs.Table.{row, Linked, Closes, Reaches};
@@ -66,7 +67,8 @@ impl History {
 
     // The set that is kept for operation y; empty where there is no operation y.
     pub(crate) fn kept(&self, y: usize) -> OpSet
-        ensures { result.bits ≡ row self.now.before y }
+        ensures bits { result.bits ≡ row self.now.before y }
+        ensures exact { Precedes (log self.now) y result.bits }
     {
         self.before.get(y).copied().unwrap_or_default()
     }

@@ -20,7 +20,7 @@ impl History {
     pub fn new() -> History
         ensures { log result ≡ [] }
     {
-        empty()
+        History::empty()
     }
 
     // The operations, in the order of their numbers.
@@ -29,14 +29,14 @@ impl History {
         ensures few { length result.now ≤ limit }
         ensures lawful { Lawful (log self.now) }
     {
-        recorded(self)
+        self.recorded()
     }
 
     // The set of the operations that happen before operation y; empty where there is no operation y.
     pub fn before(&self, y: usize) -> OpSet
         ensures { Precedes (log self.now) y result.bits }
     {
-        kept_before(self, y)
+        self.kept(y)
     }
 
     // Records a call, unless it is refused; then nothing changes.
@@ -45,7 +45,7 @@ impl History {
         ensures whole { OnErr result (self.new ≡ self.old) }
     {
         self.may_call(call)?;
-        *self = with_call(*self, call);
+        *self = self.with_call(call);
         Ok(())
     }
 
@@ -55,7 +55,7 @@ impl History {
         ensures whole { OnErr result (self.new ≡ self.old) }
     {
         let x = self.may_reply(thread, reply)?;
-        *self = with_reply(*self, x, reply);
+        *self = self.with_reply(x, reply);
         Ok(())
     }
 
@@ -63,61 +63,53 @@ impl History {
     pub fn clear(&mut self)
         ensures { log self.new ≡ [] }
     {
-        *self = empty();
+        *self = History::empty();
     }
-}
 
-// No operations in any slot.
-fn empty() -> History
-    ensures { log result ≡ [] }
-{
-    History {
-        operations: BoundedList::new(Operation::default()),
-        before: [OpSet::default(); LIMIT],
+    // No operations in any slot.
+    fn empty() -> History
+        ensures { log result ≡ [] }
+    {
+        History {
+            operations: BoundedList::new(Operation::default()),
+            before: [OpSet::default(); LIMIT],
+        }
     }
-}
 
-// The operations, with the laws that they keep.
-fn recorded(history: &History) -> &[Operation]
-    ensures all { result.now ≡ log history.now }
-    ensures few { length result.now ≤ limit }
-    ensures lawful { Lawful (log history.now) }
-{
-    history.operations.as_slice()
-}
-
-// The set that is kept for operation y.
-fn kept_before(history: &History, y: usize) -> OpSet
-    ensures { Precedes (log history.now) y result.bits }
-{
-    history.kept(y)
-}
-
-// The history with a call more.
-fn with_call(history: History, call: Call) -> History
-    requires { (f : Fault) → CallMeets limit (log history) call f → ⊥ }
-    ensures { log result ≡ log history ++ opened call ∷ [] }
-{
-    let mut before = history.before;
-    before[history.operations().len()] = history.before_call(call);
-    History {
-        operations: history.operations.with(Operation { call, reply: None }),
-        before,
+    // The operations, with the laws that they keep.
+    fn recorded(&self) -> &[Operation]
+        ensures all { result.now ≡ log self.now }
+        ensures few { length result.now ≤ limit }
+        ensures lawful { Lawful (log self.now) }
+    {
+        self.operations.as_slice()
     }
-}
 
-// The history with the reply of operation x.
-fn with_reply(history: History, x: usize, reply: (u8, u16)) -> History
-    requires { x < length (log history) }
-    ensures { log result ≡ slice_set (log history) x (answered (at (log history) x) reply) }
-{
-    let call = history.operations.as_slice()[x].call;
-    let answered = Operation {
-        call,
-        reply: Some(reply),
-    };
-    History {
-        operations: history.operations.replaced(x, answered),
-        before: history.before,
+    // The history with a call more.
+    fn with_call(self, call: Call) -> History
+        requires { (f : Fault) → CallMeets limit (log self) call f → ⊥ }
+        ensures { log result ≡ log self ++ opened call ∷ [] }
+    {
+        let mut before = self.before;
+        before[self.operations().len()] = self.before_call(call);
+        History {
+            operations: self.operations.with(Operation { call, reply: None }),
+            before,
+        }
+    }
+
+    // The history with the reply of operation x.
+    fn with_reply(self, x: usize, reply: (u8, u16)) -> History
+        requires { x < length (log self) }
+        ensures { log result ≡ slice_set (log self) x (answered (at (log self) x) reply) }
+    {
+        let answered = Operation {
+            reply: Some(reply),
+            ..self.operations()[x]
+        };
+        History {
+            operations: self.operations.replaced(x, answered),
+            before: self.before,
+        }
     }
 }

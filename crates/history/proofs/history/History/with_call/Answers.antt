@@ -3,17 +3,17 @@ use Rattle.history.specs.Limits.{limit}
 use Rattle.history.specs.Log.{opened}
 use Rattle.history.specs.Recorded.{log}
 use Rattle.history.proofs.Keeping.{Kept, kept, kept_push, room}
-use Rattle.history.proofs.history.steps.with_call.Goals as goal
+use Rattle.history.proofs.history.History.with_call.Goals as goal
 
 pub bounds-before-operations : goal.bounds-before-operations
-bounds-before-operations c = omega (arith, ap length c.operations.ensures.all, room limit (log c.args.history) c.args.call c.requires)
+bounds-before-operations c = omega (arith, ap length c.operations.ensures.all, room limit (log c.args.self) c.args.call c.requires)
 
 pub with-requires : goal.with-requires
-with-requires c = (lit< tt, room limit (log c.args.history) c.args.call c.requires)
+with-requires c = (lit< tt, room limit (log c.args.self) c.args.call c.requires)
 
 pub invariant_of-result : goal.invariant_of-result
 invariant_of-result c =
-    let h = c.args.history in
+    let h = c.args.self in
     let call = c.args.call in
     let before = c.before_call.result in
     let slots : length h.before ≡ 12 = search rules in

@@ -1,6 +1,6 @@
 use Rattle.std.proofs.Common.{[], replicate, sym, subst}
 use Rattle.history.proofs.Keeping.{Kept, kept_none}
-use Rattle.history.proofs.history.steps.empty.Goals as goal
+use Rattle.history.proofs.history.History.empty.Goals as goal
 
 pub invariant_of-result : goal.invariant_of-result
 invariant_of-result c =
