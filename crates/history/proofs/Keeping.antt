@@ -58,4 +58,4 @@ kept_filled log table i reply k = record {
 
 -- there is room where a call is accepted
 pub room : (limit : ℕ) (log : List Operation) (c : Call) → ((f : HistoryFault) → CallMeets limit log c f → ⊥) → length log < limit
-room limit log c accepted = let not_full : limit ≤ length log → ⊥ = accepted Full in omega arith
+room limit log c accepted = grind (arith, accepted Full)

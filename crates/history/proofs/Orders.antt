@@ -1,5 +1,6 @@
 -- What happens before what, as a log grows.
 use Rattle.std.proofs.Common.{◌≡◌, ℕ, zero, suc, ◌<◌, ◌≤◌, ◌≢◌, ◌⊎◌, ⊎_elim, ◌↔◌, List, [], ◌∷◌, ◌++◌, length, set, None, sym, refl, ap, ◌∙◌, subst, inl, inr, arith, length-set}
+use Rattle.std.proofs.lemmas.Grind.{common_steps}
 use mathlib.Core.Logic.Dec.{and}
 use native.Mathlib.Decide.{ℕ_discrete, dec_lt}
 use Rattle.std.proofs.lemmas.Bool.{cases_order}
@@ -115,17 +116,17 @@ recalled next log b ascending (through {x} {z} {y} p q) n =
 -- ---- one call more
 
 at_old : (log : List Operation) (o : Operation) (x : ℕ) → x < length log → at (log ++ o ∷ []) x ≡ at log x
-at_old log o x l = get_or_append_left log (o ∷ []) blank x l
+at_old log o x l = grind (arith, common_steps)
 
 at_new : (log : List Operation) (o : Operation) → at (log ++ o ∷ []) (length log) ≡ o
-at_new log o = get_or_push log o blank (length log) refl
+at_new log o = grind (arith, common_steps)
 
 pub begins_push : (log : List Operation) (o : Operation) → Begins (log ++ o ∷ []) log
-begins_push log o = record { long = omega (arith, length_push log o); calls = λ x l. ap (λ p. p.call) (at_old log o x l) }
+begins_push log o = record { long = grind (arith, common_steps); calls = λ x l. grind (arith, common_steps) }
 
 -- an operation of the longer log is the new one or an old one
 pub new_or_old : (log : List Operation) (o : Operation) (y : ℕ) → y < length (log ++ o ∷ []) → (y ≡ length log) ⊎ (y < length log)
-new_or_old log o y l = elim (ℕ_discrete y (length log)) [ yes e ↦ inl e | no d ↦ inr (omega (arith, length_push log o)) ]
+new_or_old log o y l = grind (arith, common_steps)
 
 -- a call that is accepted names operations that are held and answered, and its thread is idle
 module _ (limit : ℕ) (log : List Operation) (c : Call) (accepted : (f : HistoryFault) → CallMeets limit log c f → ⊥) where
@@ -174,7 +175,7 @@ module _ (limit : ℕ) (log : List Operation) (c : Call) (accepted : (f : Histor
       go (through p q) = let a = go p in let b = go q in omega arith
 
   answered_push : (x : ℕ) → Answered log x → Answered grown x
-  answered_push x a = let l = a.0 in (omega (arith, length_push log (opened c)), λ e. a.1 (sym (ap (λ o. o.reply) (at_old log (opened c) x a.0)) ∙ e))
+  answered_push x a = grind (arith, common_steps)
 
   pub settled_push : Settled log → Settled grown
   settled_push settled x y p = answered_push x (go p)
@@ -211,11 +212,7 @@ module _ (log : List Operation) (i : ℕ) (reply : ℕ × ℕ) where
   filled = set log i (answered (at log i) reply)
 
   same_call : (x : ℕ) → x < length log → (at filled x).call ≡ (at log x).call
-  same_call x l = go (ℕ_discrete x i)
-    where
-      go : Dec (x ≡ i) → (at filled x).call ≡ (at log x).call
-      go (yes e) = subst (λ n. (at filled n).call ≡ (at log n).call) (sym e) (ap (λ o. o.call) (get_or-set_same log i (answered (at log i) reply) blank (omega arith)))
-      go (no d) = ap (λ o. o.call) (get_or-set_other log i x (answered (at log i) reply) blank d)
+  same_call x l = grind (arith, common_steps, get_or-set_other)
 
   pub begins_filled : Begins filled log
   begins_filled = record { long = omega (arith, length-set log i (answered (at log i) reply)); calls = same_call }

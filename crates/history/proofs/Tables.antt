@@ -1,5 +1,6 @@
 -- The sets kept beside the operations, as a log grows.
 use Rattle.std.proofs.Common.{◌≡◌, ℕ, ◌<◌, ◌≢◌, List, [], ◌∷◌, ◌++◌, length, set, get_or, replicate, sym, ap, subst, inl, inr, arith}
+use Rattle.std.proofs.lemmas.Grind.{common_steps}
 use native.Mathlib.Decide.{ℕ_discrete, dec_lt}
 use Rattle.std.proofs.lemmas.List.{get_or_past, get_or-replicate, get_or-set_same, get_or-set_other, length-replicate}
 use Rattle.history.specs.declared.operations.Call.{Call}
@@ -18,21 +19,14 @@ pub kept_exact : (log : List Operation) (table : List OpSet) → Ascending log �
 kept_exact log table ascending keeps only y x = (λ h. elim (before? log ascending x y) [ yes p ↦ p | no n ↦ absurd (only x y h n) ], keeps x y)
 
 row_old : (table : List OpSet) (n : ℕ) (s : OpSet) (y : ℕ) → y ≢ n → row (set table n s) y ≡ row table y
-row_old table n s y d = ap (λ o. o.bits) (get_or-set_other table n y s (record { bits = 0 }) d)
+row_old table n s y d = grind (arith, common_steps)
 
 row_new : (table : List OpSet) (n : ℕ) (s : OpSet) → n < length table → row (set table n s) n ≡ s.bits
-row_new table n s l = ap (λ o. o.bits) (get_or-set_same table n s (record { bits = 0 }) l)
+row_new table n s l = grind (arith, common_steps)
 
 -- the sets of no operations
 pub row_none : (n y : ℕ) → row (replicate n (record { bits = 0 })) y ≡ 0
-row_none n y = ap {A = OpSet} (λ o. o.bits) (go (dec_lt y n))
-  where
-    nil : OpSet
-    nil = record { bits = 0 }
-
-    go : Dec (y < n) → get_or (replicate n nil) y nil ≡ nil
-    go (yes l) = get_or-replicate n y nil nil l
-    go (no m) = get_or_past (replicate n nil) y nil (omega (arith, length-replicate n nil))
+row_none n y = grind (arith, common_steps, get_or_past, get_or-replicate)
 
 module _ (limit : ℕ) (log : List Operation) (c : Call) (accepted : (f : HistoryFault) → CallMeets limit log c f → ⊥) (ascending : Ascending log) (table : List OpSet) where
   abbrev grown : List Operation
