@@ -14,13 +14,7 @@ picks_more n Says s t l says adds picks x = grind (arith, picks x, adds x)
 
 -- or one for which it says false
 pub picks_less : (n : ℕ) (Says : ℕ → Bool → Type 0) (s : ℕ) → Says n false → Picks n Says s → Picks (n + 1) Says s
-picks_less n Says s says picks x = (λ h. grind (arith, picks x), at (dec_lt x n))
-  where
-    at : Dec (x < n) → x < n + 1 → (b : Bool) × Says x b × Decides b (Has s x)
-    at (yes m) k = (picks x).1 m
-    at (no m) k =
-        let e : x ≡ n = omega arith in
-        (false, subst (λ y. Says y false) (sym e) says, (λ f. absurd (false≢true f), λ h. absurd (m ((picks x).0 h))))
+picks_less n Says s says picks x = (λ h. grind (arith, picks x), λ k. elim (dec_lt x n) [ yes m ↦ (picks x).1 m | no m ↦ (false, grind arith, grind (arith, picks x)) ])
 
 -- a set with all that a table has for its members below n
 abbrev pub ClosedBelow : ℕ → ℕ → List OpSet → ℕ → Type 0

@@ -30,11 +30,7 @@ pub settled_none : Settled []
 settled_none x y p = absurd (omega (arith, held [] p))
 
 pub single : (log : List Operation) → Settled log → Single log
-single log settled t x y b d o p =
-    ⊎_elim
-    (λ e. e)
-    (⊎_elim (λ l. absurd ((settled x y (program l d.0 (b.1 ∙ sym d.1))).1 o.1)) (λ l. absurd ((settled y x (program l b.0 (d.1 ∙ sym b.1))).1 p.1)))
-    (cases_order x y)
+single log settled t x y b d o p = grind (arith, settled x y, settled y x, program)
 
 pub lawful : (log : List Operation) → Ascending log → Settled log → Lawful log
 lawful log ascending settled = record {
@@ -90,10 +86,7 @@ pub record Begins (next log : List Operation) : Type 0 where
   pub calls : (x : ℕ) → x < length log → (at next x).call ≡ (at log x).call
 
 link_carried : (next log : List Operation) → Begins next log → (x y : ℕ) → Direct log x y → Direct next x y
-link_carried next log b x y (m, inl l) =
-    let n = b.long in
-    (omega arith, inl (l.0, ap (λ c. c.thread) (b.calls x (omega (arith, l.0))) ∙ l.1 ∙ sym (ap (λ c. c.thread) (b.calls y m))))
-link_carried next log b x y (m, inr h) = let n = b.long in (omega arith, inr (subst (λ c. Has c.after.bits x) (sym (b.calls y m)) h))
+link_carried next log b x y d = grind (arith, b.calls x, b.calls y, b.long)
 
 pub carried : (next log : List Operation) → Begins next log → {x y : ℕ} → Before log x y → Before next x y
 carried next log b {x} {y} (program l m e) = direct_before next x y (link_carried next log b x y (m, inl (l, e)))
@@ -102,8 +95,7 @@ carried next log b (through p q) = through (carried next log b p) (carried next 
 
 -- a link to an operation that the other log has too is a link there
 link_recalled : (next log : List Operation) → Begins next log → (x y : ℕ) → y < length log → Direct next x y → Direct log x y
-link_recalled next log b x y n (m, inl l) = (n, inl (l.0, sym (ap (λ c. c.thread) (b.calls x (omega (arith, l.0)))) ∙ l.1 ∙ ap (λ c. c.thread) (b.calls y n)))
-link_recalled next log b x y n (m, inr h) = (n, inr (subst (λ c. Has c.after.bits x) (b.calls y n) h))
+link_recalled next log b x y n d = grind (arith, b.calls x, b.calls y)
 
 -- what is before such an operation is so there
 pub recalled : (next log : List Operation) → Begins next log → Ascending next → {x y : ℕ} → Before next x y → y < length log → Before log x y
@@ -134,27 +126,17 @@ module _ (limit : ℕ) (log : List Operation) (c : Call) (accepted : (f : Histor
   grown = log ++ opened c ∷ []
 
   names_held : (x : ℕ) → Has c.after.bits x → x < length log
-  names_held x h = let not_absent : length log ≤ x → ⊥ = λ l. accepted AfterAbsent (x, h, l) in omega arith
+  names_held x h = grind (arith, accepted AfterAbsent)
 
   -- a link to the new operation
   new_link : (x : ℕ) → Direct grown x (length log) ↔ Linked log c x
-  new_link x = (there, back)
-    where
-      there : Direct grown x (length log) → Linked log c x
-      there (m, inl l) = inl (l.0, sym (ap (λ o. o.call.thread) (at_old log (opened c) x l.0)) ∙ l.1 ∙ ap (λ o. o.call.thread) (at_new log (opened c)))
-      there (m, inr h) = inr (subst (λ o. Has o.call.after.bits x) (at_new log (opened c)) h)
-
-      back : Linked log c x → Direct grown x (length log)
-      back (inl b) = (omega (arith, length_push log (opened c)), inl (b.0, ap (λ o. o.call.thread) (at_old log (opened c) x b.0) ∙ b.1 ∙ sym (ap (λ o. o.call.thread) (at_new log (opened c)))))
-      back (inr h) = (omega (arith, length_push log (opened c)), inr (subst (λ o. Has o.call.after.bits x) (sym (at_new log (opened c))) h))
+  new_link x = grind (arith, common_steps)
 
   link_held : (x : ℕ) → Linked log c x → x < length log
-  link_held x (inl b) = b.0
-  link_held x (inr h) = names_held x h
+  link_held x l = grind (arith, names_held)
 
   link_settled : (x : ℕ) → Linked log c x → Answered log x
-  link_settled x (inl b) = (b.0, λ e. accepted ThreadBusy (x, b, (b.0, e)))
-  link_settled x (inr h) = (names_held x h, λ e. accepted AfterOpen (x, h, (names_held x h, e)))
+  link_settled x l = grind (arith, accepted ThreadBusy, accepted AfterOpen, names_held)
 
   -- a law of links that holds of the old ones and of the new ones holds of all
   each_link : (P : ℕ → ℕ → Type 0) → ((x y : ℕ) → Before log x y → P x y) → ((x : ℕ) → Linked log c x → P x (length log)) → (x y : ℕ) → Direct grown x y → P x y
@@ -227,15 +209,4 @@ module _ (log : List Operation) (i : ℕ) (reply : ℕ × ℕ) where
   ascending_filled ascending x y p = ascending x y (carried log filled filled_begins p)
 
   pub settled_filled : Settled log → Settled filled
-  settled_filled settled x y p = go (settled x y (carried log filled filled_begins p)) (ℕ_discrete x i)
-    where
-      some : (answered (at log i) reply).reply ≢ None
-      some e = let z : ◌≡◌ {A = ℕ} 0 1 = cc in omega arith
-
-      go : Answered log x → Dec (x ≡ i) → Answered filled x
-      go a (yes e) =
-          let l = a.0 in
-          (omega (arith, length-set log i (answered (at log i) reply)), λ f. some (sym (ap (λ o. o.reply) (get_or-set_same log i (answered (at log i) reply) blank (omega arith))) ∙ subst (λ n. (at filled n).reply ≡ None) e f))
-      go a (no d) =
-          let l = a.0 in
-          (omega (arith, length-set log i (answered (at log i) reply)), λ f. a.1 (sym (ap (λ o. o.reply) (get_or-set_other log i x (answered (at log i) reply) blank d)) ∙ f))
+  settled_filled settled x y p = let a = settled x y (carried log filled filled_begins p) in grind (arith, common_steps)

@@ -16,7 +16,7 @@ use Rattle.history.proofs.Orders.{before?, begins_push, begins_filled, filled_be
 
 -- a set that is kept is exact, since before can be decided
 pub kept_exact : (log : List Operation) (table : List OpSet) → Ascending log → Keeps log table → KeepsOnly log table → (y : ℕ) → Precedes log y (row table y)
-kept_exact log table ascending keeps only y x = (λ h. elim (before? log ascending x y) [ yes p ↦ p | no n ↦ absurd (only x y h n) ], keeps x y)
+kept_exact log table ascending keeps only y x = grind (arith, before? log ascending x y, only x y, keeps x y)
 
 row_old : (table : List OpSet) (n : ℕ) (s : OpSet) (y : ℕ) → y ≢ n → row (set table n s) y ≡ row table y
 row_old table n s y d = grind (arith, common_steps)
@@ -34,36 +34,17 @@ module _ (limit : ℕ) (log : List Operation) (c : Call) (accepted : (f : Histor
 
   -- the operations linked to the new one, and all that is before one of them
   pub new_row : ((y : ℕ) → Precedes log y (row table y)) → (all : ℕ) → Reaches log c table all → Precedes grown (length log) all
-  new_row exact all (direct, linked, closes) x = (there, back)
-    where
-      there : Has all x → Before grown x (length log)
-      there h = elim ((closes x).0 h) [
-        | inl d ↦ (new_before limit log c accepted ascending x).1 (inl ((linked x).0 d))
-        | inr s ↦ (new_before limit log c accepted ascending x).1 (inr (s.0, (linked s.0).0 s.1, (exact s.0 x).0 s.2))
-      ]
-
-      back : Before grown x (length log) → Has all x
-      back p = elim ((new_before limit log c accepted ascending x).0 p) [
-        | inl l ↦ (closes x).1 (inl ((linked x).1 l))
-        | inr s ↦ (closes x).1 (inr (s.0, (linked s.0).1 s.1, (exact s.0 x).1 s.2))
-      ]
+  new_row exact all (direct, linked, closes) x = grind (arith, closes x, new_before limit log c accepted ascending x, linked, exact)
 
   module _ (room : length log < length table) (all : OpSet) (new : Precedes grown (length log) all.bits) where
     abbrev longer : List OpSet
     longer = set table (length log) all
 
     pub keeps_push : Keeps log table → Keeps grown longer
-    keeps_push keeps x y p = elim (new_or_old log (opened c) y (held grown p)) [
-      | inl e ↦ subst (λ z. Has (row longer z) x) (sym e) (subst (λ s. Has s x) (sym (row_new table (length log) all room)) ((new x).1 (subst (λ n. Before grown x n) e p)))
-      | inr l ↦ subst (λ s. Has s x) (sym (row_old table (length log) all y (omega arith))) (keeps x y (recalled grown log (begins_push log (opened c)) (ascending_push limit log c accepted ascending) p l))
-    ]
+    keeps_push keeps x y p = let l = held grown p in grind (arith, common_steps, row_old, row_new, new x, keeps x y, recalled grown log (begins_push log (opened c)) (ascending_push limit log c accepted ascending))
 
     pub only_push : KeepsOnly log table → KeepsOnly grown longer
-    only_push only x y h n = go (ℕ_discrete y (length log))
-      where
-        go : Dec (y ≡ length log) → ⊥
-        go (yes e) = n (subst (λ z. Before grown x z) (sym e) ((new x).0 (subst (λ s. Has s x) (row_new table (length log) all room) (subst (λ z. Has (row longer z) x) e h))))
-        go (no d) = only x y (subst (λ s. Has s x) (row_old table (length log) all y d) h) (λ p. n (carried grown log (begins_push log (opened c)) p))
+    only_push only x y h n = grind (arith, common_steps, row_old, row_new, new x, only x y, carried grown log (begins_push log (opened c)))
 
 module _ (log : List Operation) (i : ℕ) (reply : ℕ × ℕ) (table : List OpSet) where
   pub keeps_filled : Keeps log table → Keeps (filled log i reply) table
