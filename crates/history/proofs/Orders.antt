@@ -48,8 +48,7 @@ abbrev Direct : List Operation → ℕ → ℕ → Type 0
 Direct log x y = (y < length log) × (((x < y) × ((at log x).call.thread ≡ (at log y).call.thread)) ⊎ Has (at log y).call.after.bits x)
 
 direct_before : (log : List Operation) (x y : ℕ) → Direct log x y → Before log x y
-direct_before log x y (m, inl l) = program l.0 m l.1
-direct_before log x y (m, inr h) = named m h
+direct_before log x y d = grind (arith, program, named)
 
 -- what is before y is so by a last link
 last_link : (log : List Operation) {x y : ℕ} → Before log x y → (z : ℕ) × Direct log z y × ((x ≡ z) ⊎ Before log x z)
@@ -72,8 +71,7 @@ before? log ascending x y = upto (suc y) y (omega arith)
     Last y z = Direct log z y × ((x ≡ z) ⊎ Before log x z)
 
     whole : (y : ℕ) → Dec ((z : ℕ) × (z < y) × Last y z) → Dec (Before log x y)
-    whole y (yes s) = let b = direct_before log s.0 y s.2.0 in yes (elim s.2.1 [ inl e ↦ subst (λ z. Before log z y) (sym e) b | inr p ↦ through p b ])
-    whole y (no f) = no (λ p. let r = last_link log p in f (r.0, ascending r.0 y (direct_before log r.0 y r.1), (r.1, r.2)))
+    whole y d = grind (arith, d, last_link log, direct_before log, ascending, through)
 
     upto : (n y : ℕ) → y < n → Dec (Before log x y)
     upto zero y l = absurd (omega arith)
@@ -140,10 +138,7 @@ module _ (limit : ℕ) (log : List Operation) (c : Call) (accepted : (f : Histor
 
   -- a law of links that holds of the old ones and of the new ones holds of all
   each_link : (P : ℕ → ℕ → Type 0) → ((x y : ℕ) → Before log x y → P x y) → ((x : ℕ) → Linked log c x → P x (length log)) → (x y : ℕ) → Direct grown x y → P x y
-  each_link P old new x y d = elim (new_or_old log (opened c) y d.0) [
-    | inl e ↦ subst (λ n. P x n) (sym e) (new x ((new_link x).0 (subst (λ n. Direct grown x n) e d)))
-    | inr l ↦ old x y (direct_before log x y (link_recalled grown log (begins_push log (opened c)) x y l d))
-  ]
+  each_link P old new x y d = grind (arith, new_or_old log (opened c) y d.0, old x y, new x, new_link x, direct_before log x y, link_recalled grown log (begins_push log (opened c)) x y)
 
   pub ascending_push : Ascending log → Ascending grown
   ascending_push ascending x y p = go p
@@ -172,20 +167,10 @@ module _ (limit : ℕ) (log : List Operation) (c : Call) (accepted : (f : Histor
 
   -- what is before the new operation: a link to it, or what is before one
   pub new_before : Ascending log → (x : ℕ) → Before grown x (length log) ↔ (Linked log c x ⊎ ((z : ℕ) × Linked log c z × Before log x z))
-  new_before ascending x = (there, back)
-    where
-      there : Before grown x (length log) → Linked log c x ⊎ ((z : ℕ) × Linked log c z × Before log x z)
-      there p =
-          let r = last_link grown p in
-          let l = (new_link r.0).0 r.1 in
-          elim r.2 [
-            | inl e ↦ inl (subst (λ z. Linked log c z) (sym e) l)
-            | inr q ↦ inr (r.0, l, recalled grown log (begins_push log (opened c)) (ascending_push ascending) q (link_held r.0 l))
-          ]
-
-      back : Linked log c x ⊎ ((z : ℕ) × Linked log c z × Before log x z) → Before grown x (length log)
-      back (inl l) = direct_before grown x (length log) ((new_link x).1 l)
-      back (inr s) = through (carried grown log (begins_push log (opened c)) s.2) (direct_before grown s.0 (length log) ((new_link s.0).1 s.1))
+  new_before ascending x = (
+    λ p. let r = last_link grown p in grind (arith, new_link r.0, link_held r.0, recalled grown log (begins_push log (opened c)) (ascending_push ascending)),
+    λ l. grind (arith, new_link, direct_before grown, carried grown log (begins_push log (opened c)), through),
+  )
 
 -- ---- a reply
 
