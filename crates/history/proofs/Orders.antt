@@ -105,12 +105,6 @@ recalled next log b ascending (through {x} {z} {y} p q) n =
 
 -- ---- one call more
 
-at_old : (log : List Operation) (o : Operation) (x : ℕ) → x < length log → at (log ++ o ∷ []) x ≡ at log x
-at_old log o x l = grind (arith, common_steps)
-
-at_new : (log : List Operation) (o : Operation) → at (log ++ o ∷ []) (length log) ≡ o
-at_new log o = grind (arith, common_steps)
-
 pub begins_push : (log : List Operation) (o : Operation) → Begins (log ++ o ∷ []) log
 begins_push log o = record { long = grind (arith, common_steps); calls = λ x l. grind (arith, common_steps) }
 
@@ -130,9 +124,6 @@ module _ (limit : ℕ) (log : List Operation) (c : Call) (accepted : (f : Histor
   new_link : (x : ℕ) → Direct grown x (length log) ↔ Linked log c x
   new_link x = grind (arith, common_steps)
 
-  link_held : (x : ℕ) → Linked log c x → x < length log
-  link_held x l = grind (arith, names_held)
-
   link_settled : (x : ℕ) → Linked log c x → Answered log x
   link_settled x l = grind (arith, accepted ThreadBusy, accepted AfterOpen, names_held)
 
@@ -144,7 +135,7 @@ module _ (limit : ℕ) (log : List Operation) (c : Call) (accepted : (f : Histor
   ascending_push ascending x y p = go p
     where
       link : (x y : ℕ) → Direct grown x y → x < y
-      link = each_link (λ x y. x < y) ascending link_held
+      link = each_link (λ x y. x < y) ascending (λ x l. (link_settled x l).0)
 
       go : {x y : ℕ} → Before grown x y → x < y
       go {x} {y} (program l m e) = l
@@ -168,7 +159,7 @@ module _ (limit : ℕ) (log : List Operation) (c : Call) (accepted : (f : Histor
   -- what is before the new operation: a link to it, or what is before one
   pub new_before : Ascending log → (x : ℕ) → Before grown x (length log) ↔ (Linked log c x ⊎ ((z : ℕ) × Linked log c z × Before log x z))
   new_before ascending x = (
-    λ p. let r = last_link grown p in grind (arith, new_link r.0, link_held r.0, recalled grown log (begins_push log (opened c)) (ascending_push ascending)),
+    λ p. let r = last_link grown p in grind (arith, new_link r.0, link_settled r.0, recalled grown log (begins_push log (opened c)) (ascending_push ascending)),
     λ l. grind (arith, new_link, direct_before grown, carried grown log (begins_push log (opened c)), through),
   )
 
@@ -182,13 +173,10 @@ module _ (log : List Operation) (i : ℕ) (reply : ℕ × ℕ) where
   same_call x l = grind (arith, common_steps, get_or-set_other)
 
   pub begins_filled : Begins filled log
-  begins_filled = record { long = omega (arith, length-set log i (answered (at log i) reply)); calls = same_call }
+  begins_filled = record { long = grind (arith, common_steps); calls = same_call }
 
   pub filled_begins : Begins log filled
-  filled_begins = record {
-    long = omega (arith, length-set log i (answered (at log i) reply));
-    calls = λ x l. sym (same_call x (omega (arith, length-set log i (answered (at log i) reply))));
-  }
+  filled_begins = record { long = grind (arith, common_steps); calls = λ x l. grind (arith, common_steps, same_call) }
 
   pub ascending_filled : Ascending log → Ascending filled
   ascending_filled ascending x y p = ascending x y (carried log filled filled_begins p)

@@ -18,12 +18,6 @@ use Rattle.history.proofs.Orders.{before?, begins_push, begins_filled, filled_be
 pub kept_exact : (log : List Operation) (table : List OpSet) → Ascending log → Keeps log table → KeepsOnly log table → (y : ℕ) → Precedes log y (row table y)
 kept_exact log table ascending keeps only y x = grind (arith, before? log ascending x y, only x y, keeps x y)
 
-row_old : (table : List OpSet) (n : ℕ) (s : OpSet) (y : ℕ) → y ≢ n → row (set table n s) y ≡ row table y
-row_old table n s y d = grind (arith, common_steps)
-
-row_new : (table : List OpSet) (n : ℕ) (s : OpSet) → n < length table → row (set table n s) n ≡ s.bits
-row_new table n s l = grind (arith, common_steps)
-
 -- the sets of no operations
 pub row_none : (n y : ℕ) → row (replicate n (record { bits = 0 })) y ≡ 0
 row_none n y = grind (arith, common_steps, get_or_past, get_or-replicate)
@@ -41,10 +35,10 @@ module _ (limit : ℕ) (log : List Operation) (c : Call) (accepted : (f : Histor
     longer = set table (length log) all
 
     pub keeps_push : Keeps log table → Keeps grown longer
-    keeps_push keeps x y p = let l = held grown p in grind (arith, common_steps, row_old, row_new, new x, keeps x y, recalled grown log (begins_push log (opened c)) (ascending_push limit log c accepted ascending))
+    keeps_push keeps x y p = let l = held grown p in grind (arith, common_steps, get_or-set_other, new x, keeps x y, recalled grown log (begins_push log (opened c)) (ascending_push limit log c accepted ascending))
 
     pub only_push : KeepsOnly log table → KeepsOnly grown longer
-    only_push only x y h n = grind (arith, common_steps, row_old, row_new, new x, only x y, carried grown log (begins_push log (opened c)))
+    only_push only x y h n = grind (arith, common_steps, get_or-set_other, new x, only x y, carried grown log (begins_push log (opened c)))
 
 module _ (log : List Operation) (i : ℕ) (reply : ℕ × ℕ) (table : List OpSet) where
   pub keeps_filled : Keeps log table → Keeps (filled log i reply) table
