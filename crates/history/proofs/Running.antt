@@ -19,17 +19,15 @@ use Rattle.history.proofs.Orders.{single, lawful, ascending_none, settled_none, 
 
 judged_once : (Met : HistoryFault → Type 0) (r s : Result Unit HistoryFault) → Judged Met r → Judged Met s → r ≡ s
 judged_once Met (Ok u) (Ok v) a b = refl
-judged_once Met (Ok u) (Err g) a b = absurd (a g b.holds)
-judged_once Met (Err f) (Ok v) a b = absurd (b f a.holds)
+judged_once Met (Ok u) (Err g) a b = grind (arith, a g)
+judged_once Met (Err f) (Ok v) a b = grind (arith, b f)
 judged_once Met (Err f) (Err g) a b = ap Err (refused_once number Met one_number f g a b)
 
 -- ---- one next log
 
 extends_once : (log : List Operation) → Settled log → (action : Action) (m n : List Operation) → Extends log action m → Extends log action n → m ≡ n
 extends_once log settled (Call c) m n a b = a ∙ sym b
-extends_once log settled (Reply thread reply) m n a b =
-    let e : a.op ≡ b.op = single log settled thread a.op b.op a.by b.by a.pending b.pending in
-    a.filled ∙ ap (λ x. set log x (answered (at log x) reply)) e ∙ sym b.filled
+extends_once log settled (Reply thread reply) m n a b = grind (arith, single log settled thread)
 extends_once log settled Clear m n a b = a ∙ sym b
 
 follows_once : (log : List Operation) → Settled log → (action : Action) (r : Result Unit HistoryFault) (m n : List Operation) → Follows log action r m → Follows log action r n → m ≡ n
@@ -37,9 +35,7 @@ follows_once log settled action (Ok u) m n a b = extends_once log settled action
 follows_once log settled action (Err f) m n a b = a ∙ sym b
 
 step_once : (log : List Operation) → Settled log → (action : Action) (r s : Result Unit HistoryFault) (m n : List Operation) → Step log action r m → Step log action s n → (r ≡ s) × (m ≡ n)
-step_once log settled action r s m n a b =
-    let e = judged_once (Meets log action) r s a.judged b.judged in
-    (e, follows_once log settled action s m n (subst (λ t. Follows log action t m) e a.follows) b.follows)
+step_once log settled action r s m n a b = grind (arith, judged_once (Meets log action) r s, follows_once log settled action s m n)
 
 -- ---- laws are kept
 
@@ -70,8 +66,8 @@ same_attempt a b f g = λ i. record { action = f i; answer = g i }
 -- the same actions from the same log get the same answers and end in the same log
 runs_once : (log : List Operation) → Laws log → (told other : List Attempt) (end last : List Operation) → actions other ≡ actions told → Runs log told end → Runs log other last → (other ≡ told) × (last ≡ end)
 runs_once log l [] [] end last e none none = (refl, refl)
-runs_once log l [] (b ∷ other) end last e r q = absurd (let n = ap length e in omega arith)
-runs_once log l (a ∷ told) [] end last e r q = absurd (let n = ap length e in omega arith)
+runs_once log l [] (b ∷ other) end last e r q = cc
+runs_once log l (a ∷ told) [] end last e r q = cc
 runs_once log l (a ∷ told) (b ∷ other) end last e (more {mid = m} {answer = r} x s rest) (more {mid = n} {answer = q} y t others) =
     let f : b.action ≡ a.action = cc in
     let g : actions other ≡ actions told = cc in

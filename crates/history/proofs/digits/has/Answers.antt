@@ -5,7 +5,4 @@ use Rattle.history.proofs.Membership.{has_below}
 
 -- no number of 16 digits has a digit further up
 pub returns-else-i-lt-WIDTH : goal.returns-else-i-lt-WIDTH
-returns-else-i-lt-WIDTH c = (
-  λ e. grind (arith, nat_tests),
-  λ h. let l : c.args.i < 16 = has_below 16 c.args.s c.args.i (omega arith) h in grind (arith, nat_tests),
-)
+returns-else-i-lt-WIDTH c = grind (arith, nat_tests, has_below 16 c.args.s)
