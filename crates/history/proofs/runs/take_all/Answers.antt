@@ -6,7 +6,7 @@ use Rattle.history.proofs.Running.{replays, actions_told, runs_told}
 use Rattle.history.proofs.runs.take_all.Goals as goal
 
 pub loop-attempt-init : goal.loop-attempt-init
-loop-attempt-init c = (refl, subst (λ l. Runs [] [] l) (sym c.requires) none)
+loop-attempt-init c = grind (arith, none)
 
 pub loop-attempt-preserved : goal.loop-attempt-preserved
 loop-attempt-preserved c =
@@ -20,6 +20,4 @@ loop-attempt-preserved c =
 pub returns : goal.returns
 returns c =
     let attempts = c.loop-attempt.attempts in
-    let l : length attempts ≤ c.loop-attempt.attempt-index = omega arith in
-    let runs = subst (λ z. Runs [] z (log c.loop-attempt.history)) (take_all c.loop-attempt.attempt-index attempts l) c.loop-attempt.invariant.1 in
-    replays c.args.attempts.now attempts (log c.loop-attempt.history) c.loop-attempt.invariant.0 runs
+    grind (arith, take_all, replays c.args.attempts.now attempts (log c.loop-attempt.history))

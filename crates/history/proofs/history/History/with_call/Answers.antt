@@ -14,10 +14,7 @@ with-requires c = (lit< tt, room limit (log c.args.self) c.args.call c.requires)
 pub invariant_of-result : goal.invariant_of-result
 invariant_of-result c =
     let h = c.args.self in
-    let call = c.args.call in
-    let before = c.before_call.result in
     let slots : length h.before ≡ 12 = search rules in
-    let free : length (log h) < length h.before = omega (arith, slots, room limit (log h) call c.requires) in
-    let kept = kept_push limit (log h) h.before call c.requires (kept h) free before c.before_call.ensures in
-    subst (λ l. Kept l (set h.before (length c.operations.result.now) before)) (sym c.with.ensures)
-    (subst (λ l. Kept (log h ++ opened call ∷ []) (set h.before (length l) before)) (sym c.operations.ensures.all) kept)
+    let free : length (log h) < length h.before = omega (arith, slots, room limit (log h) c.args.call c.requires) in
+    let kept = kept_push limit (log h) h.before c.args.call c.requires (kept h) free c.before_call.result c.before_call.ensures in
+    grind (arith, kept)
