@@ -1,18 +1,17 @@
 -- Loops that gather a set.
-use Rattle.std.proofs.Common.{◌≡◌, ℕ, Bool, true, false, Decides, refl, ◌+◌, ◌<◌, ◌⊎◌, ◌↔◌, List, Some, sym, ◌∙◌, subst, inl, inr, arith}
-use native.Mathlib.Decide.{ℕ_discrete, dec_lt}
-use Rattle.std.proofs.lemmas.Bool.{false≢true}
+use Rattle.std.proofs.Common.{◌≡◌, ℕ, Bool, true, false, ◌+◌, ◌<◌, ◌⊎◌, ◌↔◌, List, Some, sym, ◌∙◌, subst, arith}
+use native.Mathlib.Decide.{dec_lt}
 use Rattle.history.specs.declared.opset.Members.{Members}
 use Rattle.history.specs.declared.opset.OpSet.{OpSet}
 use Rattle.history.specs.Members.{Gives}
 use Rattle.history.specs.Sets.{Has, Adds, Joins, Next, Picks}
 use Rattle.history.specs.Table.{row}
 
--- the next number is one for which the test says true
+-- the test says true of the next number
 pub picks_more : (n : ℕ) (Says : ℕ → Bool → Type 0) (s t : ℕ) → n < 16 → Says n true → Adds s n t → Picks n Says s → Picks (n + 1) Says t
 picks_more n Says s t l says adds picks x = grind (arith, picks x, adds x)
 
--- or one for which it says false
+-- or false
 pub picks_less : (n : ℕ) (Says : ℕ → Bool → Type 0) (s : ℕ) → Says n false → Picks n Says s → Picks (n + 1) Says s
 picks_less n Says s says picks x = (λ h. grind (arith, picks x), λ k. elim (dec_lt x n) [ yes m ↦ (picks x).1 m | no m ↦ (false, grind arith, grind (arith, picks x)) ])
 

@@ -1,5 +1,5 @@
 -- What a history keeps true of its operations and its sets.
-use Rattle.std.proofs.Common.{ℕ, ◌<◌, ◌≤◌, List, [], ◌∷◌, ◌++◌, length, set, replicate, subst, arith}
+use Rattle.std.proofs.Common.{ℕ, ◌<◌, List, [], ◌∷◌, ◌++◌, length, set, replicate, subst, arith}
 use Rattle.history.specs.declared.history.History.{History}
 use Rattle.history.specs.declared.operations.Call.{Call}
 use Rattle.history.specs.declared.operations.HistoryFault.{HistoryFault}

@@ -1,15 +1,14 @@
 -- What happens before what, as a log grows.
-use Rattle.std.proofs.Common.{◌≡◌, ℕ, zero, suc, ◌<◌, ◌≤◌, ◌≢◌, ◌⊎◌, ⊎_elim, ◌↔◌, List, [], ◌∷◌, ◌++◌, length, set, None, sym, refl, ap, ◌∙◌, subst, inl, inr, arith, length-set}
+use Rattle.std.proofs.Common.{◌≡◌, ℕ, zero, suc, ◌<◌, ◌≤◌, ◌⊎◌, ◌↔◌, List, [], ◌∷◌, ◌++◌, length, set, refl, subst, inl, inr, arith}
 use Rattle.std.proofs.lemmas.Grind.{common_steps}
 use mathlib.Core.Logic.Dec.{and}
 use native.Mathlib.Decide.{ℕ_discrete, dec_lt}
-use Rattle.std.proofs.lemmas.Bool.{cases_order}
-use Rattle.std.proofs.lemmas.List.{get_or_append_left, get_or_push, get_or-set_same, get_or-set_other, length_push}
+use Rattle.std.proofs.lemmas.List.{get_or-set_other}
 use Rattle.history.specs.declared.operations.Call.{Call}
 use Rattle.history.specs.declared.operations.HistoryFault.{HistoryFault}
 use Rattle.history.specs.declared.operations.HistoryFault.TheVariants.{ThreadBusy, AfterAbsent, AfterOpen}
 use Rattle.history.specs.declared.operations.Operation.{Operation}
-use Rattle.history.specs.Log.{at, blank, Answered, opened, answered}
+use Rattle.history.specs.Log.{at, Answered, opened, answered}
 use Rattle.history.specs.Order.{Before, program, named, through, Ascending, Settled, Single, Lawful}
 use Rattle.history.specs.Refusals.{CallMeets}
 use Rattle.history.specs.Sets.{Has}

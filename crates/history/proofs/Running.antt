@@ -8,7 +8,6 @@ use Rattle.history.specs.declared.operations.Attempt.{Attempt}
 use Rattle.history.specs.declared.operations.HistoryFault.{HistoryFault}
 use Rattle.history.specs.declared.operations.Operation.{Operation}
 use Rattle.history.specs.Limits.{limit}
-use Rattle.history.specs.Log.{at, answered}
 use Rattle.history.specs.Numbers.{one_number}
 use Rattle.history.specs.Order.{Ascending, Settled}
 use Rattle.history.specs.Refusals.{number, Judged}

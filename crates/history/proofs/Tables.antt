@@ -1,18 +1,16 @@
 -- The sets kept beside the operations, as a log grows.
-use Rattle.std.proofs.Common.{◌≡◌, ℕ, ◌<◌, ◌≢◌, List, [], ◌∷◌, ◌++◌, length, set, get_or, replicate, sym, ap, subst, inl, inr, arith}
+use Rattle.std.proofs.Common.{◌≡◌, ℕ, ◌<◌, List, [], ◌∷◌, ◌++◌, length, set, replicate, arith}
 use Rattle.std.proofs.lemmas.Grind.{common_steps}
-use native.Mathlib.Decide.{ℕ_discrete, dec_lt}
-use Rattle.std.proofs.lemmas.List.{get_or_past, get_or-replicate, get_or-set_same, get_or-set_other, length-replicate}
+use Rattle.std.proofs.lemmas.List.{get_or_past, get_or-replicate, get_or-set_other}
 use Rattle.history.specs.declared.operations.Call.{Call}
 use Rattle.history.specs.declared.operations.HistoryFault.{HistoryFault}
 use Rattle.history.specs.declared.operations.Operation.{Operation}
 use Rattle.history.specs.declared.opset.OpSet.{OpSet}
 use Rattle.history.specs.Log.{opened}
-use Rattle.history.specs.Order.{Before, Ascending, Precedes}
+use Rattle.history.specs.Order.{Ascending, Precedes}
 use Rattle.history.specs.Refusals.{CallMeets}
-use Rattle.history.specs.Sets.{Has}
 use Rattle.history.specs.Table.{row, Keeps, KeepsOnly, Reaches}
-use Rattle.history.proofs.Orders.{before?, begins_push, begins_filled, filled_begins, carried, held, recalled, filled, new_or_old, ascending_push, new_before}
+use Rattle.history.proofs.Orders.{before?, begins_push, begins_filled, filled_begins, carried, held, recalled, filled, ascending_push, new_before}
 
 -- a set that is kept is exact, since before can be decided
 pub kept_exact : (log : List Operation) (table : List OpSet) → Ascending log → Keeps log table → KeepsOnly log table → (y : ℕ) → Precedes log y (row table y)

@@ -31,6 +31,6 @@ Next s from found =
     MatchOption found ((j : ℕ) → from ≤ j → Has s j → ⊥)
     (λ i. (from ≤ i) × Has s i × ((j : ℕ) → from ≤ j → j < i → Has s j → ⊥))
 
--- s has those below n for which a test says true
+-- s has those below n of which a test says true
 abbrev pub Picks : ℕ → (ℕ → Bool → Type 0) → ℕ → Type 0
 Picks n Says s = (x : ℕ) → (Has s x → x < n) × (x < n → (b : Bool) × Says x b × Decides b (Has s x))

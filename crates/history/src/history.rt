@@ -12,7 +12,8 @@ mod gather;
 mod refusals;
 mod steps;
 
-// The operations in the order in which their calls were accepted, and for each slot the set of those that happen before it; empty where there is none.
+// The operations in the order in which their calls were accepted, and for each slot the set of those that happen before its operation,
+// empty where it has none.
 #[derive(Clone, Copy)]
 pub struct History {
     operations: BoundedList<Operation, LIMIT>,

@@ -27,14 +27,14 @@ impl History {
     }
 
     // The operations of a thread.
-    pub(crate) fn operations_of(&self, thread: u8) -> OpSet
+    pub(super) fn operations_of(&self, thread: u8) -> OpSet
         ensures { (x : ℕ) → Has result.bits x ↔ By (log self.now) thread x }
     {
         self.operations_where(|operation| operation.call.thread == thread)
     }
 
     // The operations that have no reply yet.
-    pub(crate) fn open_operations(&self) -> OpSet
+    pub(super) fn open_operations(&self) -> OpSet
         ensures { (x : ℕ) → Has result.bits x ↔ Open (log self.now) x }
     {
         self.operations_where(|operation| operation.reply.is_none())
@@ -48,7 +48,7 @@ impl History {
     }
 
     // What is before a call that is to come: the operations linked to it, and all that is before these.
-    pub(crate) fn before_call(&self, call: Call) -> OpSet
+    pub(super) fn before_call(&self, call: Call) -> OpSet
         ensures { Reaches (log self.now) call self.now.before result.bits }
     {
         self.with_all_before(self.linked_operations(call))
@@ -66,7 +66,7 @@ impl History {
     }
 
     // The set that is kept for operation y; empty where there is no operation y.
-    pub(crate) fn kept(&self, y: usize) -> OpSet
+    pub(super) fn kept(&self, y: usize) -> OpSet
         ensures bits { result.bits ≡ row self.now.before y }
         ensures exact { Precedes (log self.now) y result.bits }
     {

@@ -10,7 +10,7 @@ use crate::limits::{LAST_THREAD, LIMIT};
 use crate::operations::{Call, HistoryFault};
 use crate::opset::OpSet;
 
-// Whether threads go so far.
+// Whether there is no such thread.
 fn is_unknown(thread: u8) -> bool
     ensures { Decides result (last_thread < thread) }
 {
@@ -66,7 +66,7 @@ impl History {
     }
 
     // Whether a call is accepted; else the first reason against it.
-    pub(crate) fn may_call(&self, call: Call) -> Result<(), HistoryFault>
+    pub(super) fn may_call(&self, call: Call) -> Result<(), HistoryFault>
         ensures { Judged (CallMeets limit (log self.now) call) result }
     {
         if is_unknown(call.thread) {
@@ -88,7 +88,7 @@ impl History {
     }
 
     // The operation that a reply answers; else the first reason against it.
-    pub(crate) fn may_reply(&self, thread: u8, reply: (u8, u16)) -> Result<usize, HistoryFault>
+    pub(super) fn may_reply(&self, thread: u8, reply: (u8, u16)) -> Result<usize, HistoryFault>
         ensures { JudgedOpen (log self.now) thread reply result }
     {
         if is_unknown(thread) {

@@ -1,7 +1,5 @@
-use Rattle.std.proofs.Common.{arith, sym, subst, inl, inr}
-use lib.Bits.{bit_or}
+use Rattle.std.proofs.Common.{arith}
 use Rattle.std.proofs.lemmas.Nat.{one_shl}
-use Rattle.history.specs.Sets.{Adds}
 use Rattle.history.proofs.digits.with.Goals as goal
 use Rattle.history.proofs.Membership.{with_has}
 

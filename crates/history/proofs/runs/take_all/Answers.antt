@@ -1,7 +1,7 @@
-use Rattle.std.proofs.Common.{◌<◌, ◌≤◌, [], length, sym, refl, ◌∙◌, subst, arith}
+use Rattle.std.proofs.Common.{◌<◌, length, ◌∙◌, arith}
 use Rattle.std.proofs.lemmas.List.{take_all}
 use Rattle.history.specs.Recorded.{log}
-use Rattle.history.specs.Steps.{Runs, none}
+use Rattle.history.specs.Steps.{none}
 use Rattle.history.proofs.Running.{replays, actions_told, runs_told}
 use Rattle.history.proofs.runs.take_all.Goals as goal
 

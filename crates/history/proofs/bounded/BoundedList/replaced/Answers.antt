@@ -1,4 +1,4 @@
-use Rattle.std.proofs.Common.{◌<◌, arith, length-take}
+use Rattle.std.proofs.Common.{arith, length-take}
 use lib.Seq.{take-set-lt}
 use Rattle.history.proofs.bounded.BoundedList.replaced.Goals as goal
 

@@ -1,5 +1,5 @@
-use Rattle.std.proofs.Common.{arith, [], replicate, sym, subst}
-use Rattle.history.proofs.Keeping.{Kept, kept_none}
+use Rattle.std.proofs.Common.{arith}
+use Rattle.history.proofs.Keeping.{kept_none}
 use Rattle.history.proofs.history.History.empty.Goals as goal
 
 pub invariant_of-result : goal.invariant_of-result

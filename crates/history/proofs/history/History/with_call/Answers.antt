@@ -1,8 +1,7 @@
-use Rattle.std.proofs.Common.{◌≡◌, ◌<◌, [], ◌∷◌, ◌++◌, length, set, sym, ap, subst, arith, lit<, rules}
+use Rattle.std.proofs.Common.{◌≡◌, ◌<◌, length, ap, arith, lit<, rules}
 use Rattle.history.specs.Limits.{limit}
-use Rattle.history.specs.Log.{opened}
 use Rattle.history.specs.Recorded.{log}
-use Rattle.history.proofs.Keeping.{Kept, kept, kept_push, room}
+use Rattle.history.proofs.Keeping.{kept, kept_push, room}
 use Rattle.history.proofs.history.History.with_call.Goals as goal
 
 pub bounds-before-operations : goal.bounds-before-operations

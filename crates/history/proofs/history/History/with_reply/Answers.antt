@@ -1,7 +1,6 @@
-use Rattle.std.proofs.Common.{arith, set, sym, ap, ◌∙◌, subst}
+use Rattle.std.proofs.Common.{arith}
 use Rattle.history.specs.Bounded.{items}
-use Rattle.history.specs.Log.{at, answered}
-use Rattle.history.proofs.Keeping.{Kept, kept, kept_filled}
+use Rattle.history.proofs.Keeping.{kept, kept_filled}
 use Rattle.history.proofs.history.History.with_reply.Goals as goal
 
 pub invariant_of-result : goal.invariant_of-result
