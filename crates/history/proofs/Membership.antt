@@ -1,8 +1,7 @@
 -- The laws of sets as numbers, in terms of their members.
-use Rattle.std.proofs.Common.{◌≡◌, ℕ, ◌/◌, ◌%◌, ◌^◌, ◌<◌, eqb, ◌⊎◌, ◌↔◌, Decides, sym, ◌∙◌, subst, arith}
-use native.Mathlib.Decide.{ℕ_discrete}
+use Rattle.std.proofs.Common.{◌≡◌, ℕ, ◌^◌, ◌<◌, eqb, ◌⊎◌, ◌↔◌, Decides, arith}
 use lib.Bits.{bit_and, bit_or}
-use Rattle.std.proofs.lemmas.Bool.Decides.{Decides-eqb, Decides-like}
+use Rattle.std.proofs.lemmas.Bool.Decides.{nat_tests}
 use Rattle.std.proofs.lemmas.Nat.Bits.{bit_at_and, bit_at_or, bit_at-zero, bit_at-lt, bit_at-pow_same, bit_at-pow_other, bit_at_above, same_from_bits}
 use Rattle.history.specs.Sets.{Has, Within, Empty, Joins, Meets}
 
@@ -26,27 +25,14 @@ with_has s i j = grind (arith, union_joins, only_has)
 
 -- sets with the same members are the same number
 same_members : (s t : ℕ) → Within s t → Within t s → s ≡ t
-same_members s t f g = same_from_bits s t (λ i. digit i (ℕ_discrete (s / 2 ^ i % 2) 1) (ℕ_discrete (t / 2 ^ i % 2) 1))
-  where
-    digit : (i : ℕ) → Dec (Has s i) → Dec (Has t i) → s / 2 ^ i % 2 ≡ t / 2 ^ i % 2
-    digit i (yes x) d = x ∙ sym (f i x)
-    digit i (no n) (yes y) = absurd (n (g i y))
-    digit i (no n) (no m) = omega (arith, bit_at-lt s i, bit_at-lt t i)
+same_members s t f g = same_from_bits s t (λ i. grind (arith, f i, g i, bit_at-lt))
 
 -- the tests of the code
 pub within_decides : (s t : ℕ) → Decides (eqb (bit_and s t) s) (Within s t)
-within_decides s t =
-    Decides-like (eqb (bit_and s t) s)
-    (λ e i h. ((intersection_meets s t i).0 (subst (λ v. Has v i) (sym e) h)).1)
-    (λ f. same_members (bit_and s t) s (λ i h. ((intersection_meets s t i).0 h).0) (λ i h. (intersection_meets s t i).1 (h, f i h)))
-    (Decides-eqb (bit_and s t) s)
+within_decides s t = (λ e. grind (arith, nat_tests, intersection_meets s t), λ f. grind (arith, nat_tests, intersection_meets s t, same_members (bit_and s t) s))
 
 pub none_has : Empty 0
 none_has i h = grind (arith, bit_at-zero)
 
 pub empty_decides : (s : ℕ) → Decides (eqb s 0) (Empty s)
-empty_decides s =
-    Decides-like (eqb s 0)
-    (λ e. subst Empty (sym e) none_has)
-    (λ f. same_members s 0 (λ i h. absurd (f i h)) (λ i h. absurd (none_has i h)))
-    (Decides-eqb s 0)
+empty_decides s = (λ e. grind (arith, nat_tests, none_has), λ f. grind (arith, nat_tests, none_has, same_members s 0))

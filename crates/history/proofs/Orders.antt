@@ -1,5 +1,5 @@
 -- What happens before what, as a log grows.
-use Rattle.std.proofs.Common.{◌≡◌, ℕ, zero, suc, ◌<◌, ◌≤◌, ◌⊎◌, ◌↔◌, List, [], ◌∷◌, ◌++◌, length, set, refl, subst, inl, inr, arith}
+use Rattle.std.proofs.Common.{◌≡◌, ℕ, zero, suc, ◌<◌, ◌≤◌, ◌⊎◌, ◌↔◌, List, [], ◌∷◌, ◌++◌, length, set, refl, inl, inr, arith}
 use Rattle.std.proofs.lemmas.Grind.{common_steps}
 use mathlib.Core.Logic.Dec.{and}
 use native.Mathlib.Decide.{ℕ_discrete, dec_lt}
@@ -53,9 +53,7 @@ direct_before log x y d = grind (arith, program, named)
 last_link : (log : List Operation) {x y : ℕ} → Before log x y → (z : ℕ) × Direct log z y × ((x ≡ z) ⊎ Before log x z)
 last_link log {x} {y} (program l m e) = (x, (m, inl (l, e)), inl refl)
 last_link log {x} {y} (named m h) = (x, (m, inr h), inl refl)
-last_link log {x} {y} (through p q) =
-    let r = last_link log q in
-    (r.0, r.1, elim r.2 [ inl e ↦ inr (subst (λ z. Before log x z) e p) | inr b ↦ inr (through p b) ])
+last_link log {x} {y} (through p q) = let r = last_link log q in (r.0, r.1, grind (arith, through))
 
 direct? : (log : List Operation) (x y : ℕ) → Dec (Direct log x y)
 direct? log x y =

@@ -45,9 +45,9 @@ laws_none : Laws []
 laws_none = (ascending_none, settled_none)
 
 extends_lawful : (log : List Operation) → Laws log → (action : Action) → ((f : HistoryFault) → Meets log action f → ⊥) → (n : List Operation) → Extends log action n → Laws n
-extends_lawful log l (Call c) a n e = subst Laws (sym e) (ascending_push limit log c a l.0, settled_push limit log c a l.1)
-extends_lawful log l (Reply thread reply) a n e = subst Laws (sym e.filled) (ascending_filled log e.op reply l.0, settled_filled log e.op reply l.1)
-extends_lawful log l Clear a n e = subst Laws (sym e) laws_none
+extends_lawful log l (Call c) a n e = grind (arith, ascending_push limit log c a l.0, settled_push limit log c a l.1)
+extends_lawful log l (Reply thread reply) a n e = grind (arith, ascending_filled log e.op reply l.0, settled_filled log e.op reply l.1)
+extends_lawful log l Clear a n e = grind (arith, ascending_none, settled_none)
 
 step_lawful : (log : List Operation) → Laws log → (action : Action) (r : Result Unit HistoryFault) (n : List Operation) → Step log action r n → Laws n
 step_lawful log l action (Ok u) n s = extends_lawful log l action s.judged n s.follows
