@@ -1,11 +1,5 @@
 -- Deciding by looking at each number in turn.
-use Rattle.std.proofs.Common.{◌≡◌, ℕ, zero, suc, ◌<◌, ◌⊎◌, subst, inl, inr, arith}
-use native.Mathlib.Decide.{dec_lt}
-
-pub both? : {A B : Type 0} → Dec A → Dec B → Dec (A × B)
-both? (yes a) (yes b) = yes (a, b)
-both? (yes a) (no d) = no (λ p. d p.1)
-both? (no d) b = no (λ p. d p.0)
+use Rattle.std.proofs.Common.{ℕ, zero, suc, ◌<◌, ◌⊎◌, inl, inr, arith}
 
 pub either? : {A B : Type 0} → Dec A → Dec B → Dec (A ⊎ B)
 either? (yes a) b = yes (inl a)
@@ -17,10 +11,7 @@ pub some_below : (P : ℕ → Type 0) (n : ℕ) → ((x : ℕ) → x < n → Dec
 some_below P zero d = no (λ s. omega (arith, s.1))
 some_below P (suc n) d = go (d n (omega arith)) (some_below P n (λ x l. d x (omega arith)))
   where
-    below : (x : ℕ) → x < suc n → P x → (P n → ⊥) → x < n
-    below x l p f = elim (dec_lt x n) [ yes a ↦ a | no b ↦ let e : x ≡ n = omega arith in absurd (f (subst P e p)) ]
-
     go : Dec (P n) → Dec ((x : ℕ) × (x < n) × P x) → Dec ((x : ℕ) × (x < suc n) × P x)
     go (yes p) r = yes (n, omega arith, p)
-    go (no f) (yes s) = let l = s.1 in yes (s.0, omega arith, s.2)
-    go (no f) (no g) = no (λ s. g (s.0, below s.0 s.1 s.2 f, s.2))
+    go (no f) (yes s) = yes (s.0, grind arith, s.2)
+    go (no f) (no g) = no (λ s. grind (arith, f, g))

@@ -1,17 +1,19 @@
 -- What happens before what, as a log grows.
-use Rattle.std.proofs.Common.{◌≡◌, ℕ, zero, suc, ◌<◌, ◌≤◌, ◌≢◌, ◌⊎◌, ◌↔◌, List, [], ◌∷◌, ◌++◌, length, set, None, sym, refl, ap, ◌∙◌, subst, inl, inr, arith, length-set}
+use Rattle.std.proofs.Common.{◌≡◌, ℕ, zero, suc, ◌<◌, ◌≤◌, ◌⊎◌, ◌↔◌, List, [], ◌∷◌, ◌++◌, length, set, refl, inl, inr, arith}
+use Rattle.std.proofs.lemmas.Grind.{common_steps}
+use mathlib.Core.Logic.Dec.{and}
 use native.Mathlib.Decide.{ℕ_discrete, dec_lt}
-use Rattle.std.proofs.lemmas.List.{get_or_append_left, get_or_push, get_or-set_same, get_or-set_other, length_push}
+use Rattle.std.proofs.lemmas.List.{get_or-set_other}
 use Rattle.history.specs.declared.operations.Call.{Call}
 use Rattle.history.specs.declared.operations.HistoryFault.{HistoryFault}
 use Rattle.history.specs.declared.operations.HistoryFault.TheVariants.{ThreadBusy, AfterAbsent, AfterOpen}
 use Rattle.history.specs.declared.operations.Operation.{Operation}
-use Rattle.history.specs.Log.{at, blank, Answered, opened, answered}
+use Rattle.history.specs.Log.{at, Answered, opened, answered}
 use Rattle.history.specs.Order.{Before, program, named, through, Ascending, Settled, Single, Lawful}
 use Rattle.history.specs.Refusals.{CallMeets}
 use Rattle.history.specs.Sets.{Has}
 use Rattle.history.specs.Table.{Linked}
-use Rattle.history.proofs.Choosing.{both?, either?, some_below}
+use Rattle.history.proofs.Choosing.{either?, some_below}
 
 -- y is in the log
 pub held : (log : List Operation) {x y : ℕ} → Before log x y → y < length log
@@ -27,12 +29,7 @@ pub settled_none : Settled []
 settled_none x y p = absurd (omega (arith, held [] p))
 
 pub single : (log : List Operation) → Settled log → Single log
-single log settled t x y b d o p = go (dec_lt x y) (dec_lt y x)
-  where
-    go : Dec (x < y) → Dec (y < x) → x ≡ y
-    go (yes l) r = absurd ((settled x y (program l d.0 (b.1 ∙ sym d.1))).1 o.1)
-    go (no n) (yes l) = absurd ((settled y x (program l b.0 (d.1 ∙ sym b.1))).1 p.1)
-    go (no n) (no m) = omega arith
+single log settled t x y b d o p = grind (arith, settled x y, settled y x, program)
 
 pub lawful : (log : List Operation) → Ascending log → Settled log → Lawful log
 lawful log ascending settled = record {
@@ -50,21 +47,18 @@ abbrev Direct : List Operation → ℕ → ℕ → Type 0
 Direct log x y = (y < length log) × (((x < y) × ((at log x).call.thread ≡ (at log y).call.thread)) ⊎ Has (at log y).call.after.bits x)
 
 direct_before : (log : List Operation) (x y : ℕ) → Direct log x y → Before log x y
-direct_before log x y (m, inl l) = program l.0 m l.1
-direct_before log x y (m, inr h) = named m h
+direct_before log x y d = grind (arith, program, named)
 
 -- what is before y is so by a last link
 last_link : (log : List Operation) {x y : ℕ} → Before log x y → (z : ℕ) × Direct log z y × ((x ≡ z) ⊎ Before log x z)
 last_link log {x} {y} (program l m e) = (x, (m, inl (l, e)), inl refl)
 last_link log {x} {y} (named m h) = (x, (m, inr h), inl refl)
-last_link log {x} {y} (through p q) =
-    let r = last_link log q in
-    (r.0, r.1, elim r.2 [ inl e ↦ inr (subst (λ z. Before log x z) e p) | inr b ↦ inr (through p b) ])
+last_link log {x} {y} (through p q) = let r = last_link log q in (r.0, r.1, grind (arith, through))
 
 direct? : (log : List Operation) (x y : ℕ) → Dec (Direct log x y)
 direct? log x y =
-    both? (dec_lt y (length log))
-    (either? (both? (dec_lt x y) (ℕ_discrete (at log x).call.thread (at log y).call.thread)) (ℕ_discrete _ 1))
+    and (dec_lt y (length log))
+    (either? (and (dec_lt x y) (ℕ_discrete (at log x).call.thread (at log y).call.thread)) (ℕ_discrete _ 1))
 
 -- where before ascends, it can be decided
 pub before? : (log : List Operation) → Ascending log → (x y : ℕ) → Dec (Before log x y)
@@ -74,12 +68,11 @@ before? log ascending x y = upto (suc y) y (omega arith)
     Last y z = Direct log z y × ((x ≡ z) ⊎ Before log x z)
 
     whole : (y : ℕ) → Dec ((z : ℕ) × (z < y) × Last y z) → Dec (Before log x y)
-    whole y (yes s) = let b = direct_before log s.0 y s.2.0 in yes (elim s.2.1 [ inl e ↦ subst (λ z. Before log z y) (sym e) b | inr p ↦ through p b ])
-    whole y (no f) = no (λ p. let r = last_link log p in f (r.0, ascending r.0 y (direct_before log r.0 y r.1), (r.1, r.2)))
+    whole y d = grind (arith, d, last_link log, direct_before log, ascending, through)
 
     upto : (n y : ℕ) → y < n → Dec (Before log x y)
     upto zero y l = absurd (omega arith)
-    upto (suc n) y l = whole y (some_below (Last y) y (λ z m. both? (direct? log z y) (either? (ℕ_discrete x z) (upto n z (omega arith)))))
+    upto (suc n) y l = whole y (some_below (Last y) y (λ z m. and (direct? log z y) (either? (ℕ_discrete x z) (upto n z (omega arith)))))
 
 -- ---- a log that begins with the calls of another
 
@@ -88,10 +81,7 @@ pub record Begins (next log : List Operation) : Type 0 where
   pub calls : (x : ℕ) → x < length log → (at next x).call ≡ (at log x).call
 
 link_carried : (next log : List Operation) → Begins next log → (x y : ℕ) → Direct log x y → Direct next x y
-link_carried next log b x y (m, inl l) =
-    let n = b.long in
-    (omega arith, inl (l.0, ap (λ c. c.thread) (b.calls x (omega (arith, l.0))) ∙ l.1 ∙ sym (ap (λ c. c.thread) (b.calls y m))))
-link_carried next log b x y (m, inr h) = let n = b.long in (omega arith, inr (subst (λ c. Has c.after.bits x) (sym (b.calls y m)) h))
+link_carried next log b x y d = grind (arith, b.calls x, b.calls y, b.long)
 
 pub carried : (next log : List Operation) → Begins next log → {x y : ℕ} → Before log x y → Before next x y
 carried next log b {x} {y} (program l m e) = direct_before next x y (link_carried next log b x y (m, inl (l, e)))
@@ -100,8 +90,7 @@ carried next log b (through p q) = through (carried next log b p) (carried next 
 
 -- a link to an operation that the other log has too is a link there
 link_recalled : (next log : List Operation) → Begins next log → (x y : ℕ) → y < length log → Direct next x y → Direct log x y
-link_recalled next log b x y n (m, inl l) = (n, inl (l.0, sym (ap (λ c. c.thread) (b.calls x (omega (arith, l.0)))) ∙ l.1 ∙ ap (λ c. c.thread) (b.calls y n)))
-link_recalled next log b x y n (m, inr h) = (n, inr (subst (λ c. Has c.after.bits x) (b.calls y n) h))
+link_recalled next log b x y n d = grind (arith, b.calls x, b.calls y)
 
 -- what is before such an operation is so there
 pub recalled : (next log : List Operation) → Begins next log → Ascending next → {x y : ℕ} → Before next x y → y < length log → Before log x y
@@ -113,22 +102,12 @@ recalled next log b ascending (through {x} {z} {y} p q) n =
 
 -- ---- one call more
 
-at_old : (log : List Operation) (o : Operation) (x : ℕ) → x < length log → at (log ++ o ∷ []) x ≡ at log x
-at_old log o x l = get_or_append_left log (o ∷ []) blank x l
-
-at_new : (log : List Operation) (o : Operation) → at (log ++ o ∷ []) (length log) ≡ o
-at_new log o = get_or_push log o blank (length log) refl
-
 pub begins_push : (log : List Operation) (o : Operation) → Begins (log ++ o ∷ []) log
-begins_push log o = record { long = omega (arith, length_push log o); calls = λ x l. ap (λ p. p.call) (at_old log o x l) }
+begins_push log o = record { long = grind (arith, common_steps); calls = λ x l. grind (arith, common_steps) }
 
 -- an operation of the longer log is the new one or an old one
 pub new_or_old : (log : List Operation) (o : Operation) (y : ℕ) → y < length (log ++ o ∷ []) → (y ≡ length log) ⊎ (y < length log)
-new_or_old log o y l = go (dec_lt y (length log))
-  where
-    go : Dec (y < length log) → (y ≡ length log) ⊎ (y < length log)
-    go (yes m) = inr m
-    go (no n) = inl (omega (arith, length_push log o))
+new_or_old log o y l = grind (arith, common_steps)
 
 -- a call that is accepted names operations that are held and answered, and its thread is idle
 module _ (limit : ℕ) (log : List Operation) (c : Call) (accepted : (f : HistoryFault) → CallMeets limit log c f → ⊥) where
@@ -136,40 +115,24 @@ module _ (limit : ℕ) (log : List Operation) (c : Call) (accepted : (f : Histor
   grown = log ++ opened c ∷ []
 
   names_held : (x : ℕ) → Has c.after.bits x → x < length log
-  names_held x h = elim (dec_lt x (length log)) [ yes l ↦ l | no n ↦ absurd (accepted AfterAbsent (x, h, omega arith)) ]
+  names_held x h = grind (arith, accepted AfterAbsent)
 
   -- a link to the new operation
   new_link : (x : ℕ) → Direct grown x (length log) ↔ Linked log c x
-  new_link x = (there, back)
-    where
-      there : Direct grown x (length log) → Linked log c x
-      there (m, inl l) = inl (l.0, sym (ap (λ o. o.call.thread) (at_old log (opened c) x l.0)) ∙ l.1 ∙ ap (λ o. o.call.thread) (at_new log (opened c)))
-      there (m, inr h) = inr (subst (λ o. Has o.call.after.bits x) (at_new log (opened c)) h)
-
-      back : Linked log c x → Direct grown x (length log)
-      back (inl b) = (omega (arith, length_push log (opened c)), inl (b.0, ap (λ o. o.call.thread) (at_old log (opened c) x b.0) ∙ b.1 ∙ sym (ap (λ o. o.call.thread) (at_new log (opened c)))))
-      back (inr h) = (omega (arith, length_push log (opened c)), inr (subst (λ o. Has o.call.after.bits x) (sym (at_new log (opened c))) h))
-
-  link_held : (x : ℕ) → Linked log c x → x < length log
-  link_held x (inl b) = b.0
-  link_held x (inr h) = names_held x h
+  new_link x = grind (arith, common_steps)
 
   link_settled : (x : ℕ) → Linked log c x → Answered log x
-  link_settled x (inl b) = (b.0, λ e. accepted ThreadBusy (x, b, (b.0, e)))
-  link_settled x (inr h) = (names_held x h, λ e. accepted AfterOpen (x, h, (names_held x h, e)))
+  link_settled x l = grind (arith, accepted ThreadBusy, accepted AfterOpen, names_held)
 
   -- a law of links that holds of the old ones and of the new ones holds of all
   each_link : (P : ℕ → ℕ → Type 0) → ((x y : ℕ) → Before log x y → P x y) → ((x : ℕ) → Linked log c x → P x (length log)) → (x y : ℕ) → Direct grown x y → P x y
-  each_link P old new x y d = elim (new_or_old log (opened c) y d.0) [
-    | inl e ↦ subst (λ n. P x n) (sym e) (new x ((new_link x).0 (subst (λ n. Direct grown x n) e d)))
-    | inr l ↦ old x y (direct_before log x y (link_recalled grown log (begins_push log (opened c)) x y l d))
-  ]
+  each_link P old new x y d = grind (arith, new_or_old log (opened c) y d.0, old x y, new x, new_link x, direct_before log x y, link_recalled grown log (begins_push log (opened c)) x y)
 
   pub ascending_push : Ascending log → Ascending grown
   ascending_push ascending x y p = go p
     where
       link : (x y : ℕ) → Direct grown x y → x < y
-      link = each_link (λ x y. x < y) ascending link_held
+      link = each_link (λ x y. x < y) ascending (λ x l. (link_settled x l).0)
 
       go : {x y : ℕ} → Before grown x y → x < y
       go {x} {y} (program l m e) = l
@@ -177,7 +140,7 @@ module _ (limit : ℕ) (log : List Operation) (c : Call) (accepted : (f : Histor
       go (through p q) = let a = go p in let b = go q in omega arith
 
   answered_push : (x : ℕ) → Answered log x → Answered grown x
-  answered_push x a = let l = a.0 in (omega (arith, length_push log (opened c)), λ e. a.1 (sym (ap (λ o. o.reply) (at_old log (opened c) x a.0)) ∙ e))
+  answered_push x a = grind (arith, common_steps)
 
   pub settled_push : Settled log → Settled grown
   settled_push settled x y p = answered_push x (go p)
@@ -192,20 +155,10 @@ module _ (limit : ℕ) (log : List Operation) (c : Call) (accepted : (f : Histor
 
   -- what is before the new operation: a link to it, or what is before one
   pub new_before : Ascending log → (x : ℕ) → Before grown x (length log) ↔ (Linked log c x ⊎ ((z : ℕ) × Linked log c z × Before log x z))
-  new_before ascending x = (there, back)
-    where
-      there : Before grown x (length log) → Linked log c x ⊎ ((z : ℕ) × Linked log c z × Before log x z)
-      there p =
-          let r = last_link grown p in
-          let l = (new_link r.0).0 r.1 in
-          elim r.2 [
-            | inl e ↦ inl (subst (λ z. Linked log c z) (sym e) l)
-            | inr q ↦ inr (r.0, l, recalled grown log (begins_push log (opened c)) (ascending_push ascending) q (link_held r.0 l))
-          ]
-
-      back : Linked log c x ⊎ ((z : ℕ) × Linked log c z × Before log x z) → Before grown x (length log)
-      back (inl l) = direct_before grown x (length log) ((new_link x).1 l)
-      back (inr s) = through (carried grown log (begins_push log (opened c)) s.2) (direct_before grown s.0 (length log) ((new_link s.0).1 s.1))
+  new_before ascending x = (
+    λ p. let r = last_link grown p in grind (arith, new_link r.0, link_settled r.0, recalled grown log (begins_push log (opened c)) (ascending_push ascending)),
+    λ l. grind (arith, new_link, direct_before grown, carried grown log (begins_push log (opened c)), through),
+  )
 
 -- ---- a reply
 
@@ -214,34 +167,16 @@ module _ (log : List Operation) (i : ℕ) (reply : ℕ × ℕ) where
   filled = set log i (answered (at log i) reply)
 
   same_call : (x : ℕ) → x < length log → (at filled x).call ≡ (at log x).call
-  same_call x l = go (ℕ_discrete x i)
-    where
-      go : Dec (x ≡ i) → (at filled x).call ≡ (at log x).call
-      go (yes e) = subst (λ n. (at filled n).call ≡ (at log n).call) (sym e) (ap (λ o. o.call) (get_or-set_same log i (answered (at log i) reply) blank (omega arith)))
-      go (no d) = ap (λ o. o.call) (get_or-set_other log i x (answered (at log i) reply) blank d)
+  same_call x l = grind (arith, common_steps, get_or-set_other)
 
   pub begins_filled : Begins filled log
-  begins_filled = record { long = omega (arith, length-set log i (answered (at log i) reply)); calls = same_call }
+  begins_filled = record { long = grind (arith, common_steps); calls = same_call }
 
   pub filled_begins : Begins log filled
-  filled_begins = record {
-    long = omega (arith, length-set log i (answered (at log i) reply));
-    calls = λ x l. sym (same_call x (omega (arith, length-set log i (answered (at log i) reply))));
-  }
+  filled_begins = record { long = grind (arith, common_steps); calls = λ x l. grind (arith, common_steps, same_call) }
 
   pub ascending_filled : Ascending log → Ascending filled
   ascending_filled ascending x y p = ascending x y (carried log filled filled_begins p)
 
   pub settled_filled : Settled log → Settled filled
-  settled_filled settled x y p = go (settled x y (carried log filled filled_begins p)) (ℕ_discrete x i)
-    where
-      some : (answered (at log i) reply).reply ≢ None
-      some e = let z : ◌≡◌ {A = ℕ} 0 1 = cc in omega arith
-
-      go : Answered log x → Dec (x ≡ i) → Answered filled x
-      go a (yes e) =
-          let l = a.0 in
-          (omega (arith, length-set log i (answered (at log i) reply)), λ f. some (sym (ap (λ o. o.reply) (get_or-set_same log i (answered (at log i) reply) blank (omega arith))) ∙ subst (λ n. (at filled n).reply ≡ None) e f))
-      go a (no d) =
-          let l = a.0 in
-          (omega (arith, length-set log i (answered (at log i) reply)), λ f. a.1 (sym (ap (λ o. o.reply) (get_or-set_other log i x (answered (at log i) reply) blank d)) ∙ f))
+  settled_filled settled x y p = let a = settled x y (carried log filled filled_begins p) in grind (arith, common_steps)

@@ -1,56 +1,32 @@
 -- Actions one after another: there is one answer to each.
-use Rattle.std.proofs.Common.{◌≡◌, ℕ, ◌+◌, ◌<◌, cond, eqb, List, [], ◌∷◌, ◌++◌, length, get_or, take, set, Some, Ok, Err, Result, sym, refl, ap, ◌∙◌, subst, arith}
-use native.Mathlib.Decide.{dec_lt}
+use Rattle.std.proofs.Common.{◌≡◌, ℕ, ◌+◌, ◌<◌, List, [], ◌∷◌, ◌++◌, length, get_or, take, set, Some, Ok, Err, Result, sym, refl, ap, ◌∙◌, subst, arith}
 use Rattle.std.proofs.lemmas.List.{map-set, get_or-map, set-get_or, take_more_set}
+use Rattle.faults.proofs.Once.{refused_once}
 use Rattle.history.specs.declared.operations.Action.{Action}
 use Rattle.history.specs.declared.operations.Action.TheVariants.{Call, Reply, Clear}
 use Rattle.history.specs.declared.operations.Attempt.{Attempt}
 use Rattle.history.specs.declared.operations.HistoryFault.{HistoryFault}
-use Rattle.history.specs.declared.operations.HistoryFault.TheVariants.{UnknownThread, Full, ThreadBusy, AfterAbsent, AfterOpen, NoOpenCall, BadReply}
 use Rattle.history.specs.declared.operations.Operation.{Operation}
 use Rattle.history.specs.Limits.{limit}
-use Rattle.history.specs.Log.{at, answered}
+use Rattle.history.specs.Numbers.{one_number}
 use Rattle.history.specs.Order.{Ascending, Settled}
-use Rattle.history.specs.Refusals.{number, Judged, Refused}
+use Rattle.history.specs.Refusals.{number, Judged}
 use Rattle.history.specs.Steps.{Extends, Meets, Follows, Step, Runs, none, more, actions, Replays}
 use Rattle.history.proofs.Orders.{single, lawful, ascending_none, settled_none, ascending_push, settled_push, ascending_filled, settled_filled}
 
 -- ---- one answer
 
--- the fault with a number
-abbrev numbered : ℕ → HistoryFault
-numbered n = cond (eqb n 7) UnknownThread (cond (eqb n 8) Full (cond (eqb n 9) ThreadBusy (cond (eqb n 10) AfterAbsent (cond (eqb n 11) AfterOpen (cond (eqb n 12) NoOpenCall BadReply)))))
-
-numbered_number : (f : HistoryFault) → numbered (number f) ≡ f
-numbered_number UnknownThread = refl
-numbered_number Full = refl
-numbered_number ThreadBusy = refl
-numbered_number AfterAbsent = refl
-numbered_number AfterOpen = refl
-numbered_number NoOpenCall = refl
-numbered_number BadReply = refl
-
-refused_once : (Met : HistoryFault → Type 0) (f g : HistoryFault) → Refused Met f → Refused Met g → f ≡ g
-refused_once Met f g a b = go (dec_lt (number f) (number g)) (dec_lt (number g) (number f))
-  where
-    go : Dec (number f < number g) → Dec (number g < number f) → f ≡ g
-    go (yes l) d = absurd (b.first f l a.holds)
-    go (no n) (yes l) = absurd (a.first g l b.holds)
-    go (no n) (no m) = let e : number f ≡ number g = omega arith in sym (numbered_number f) ∙ ap numbered e ∙ numbered_number g
-
 judged_once : (Met : HistoryFault → Type 0) (r s : Result Unit HistoryFault) → Judged Met r → Judged Met s → r ≡ s
 judged_once Met (Ok u) (Ok v) a b = refl
-judged_once Met (Ok u) (Err g) a b = absurd (a g b.holds)
-judged_once Met (Err f) (Ok v) a b = absurd (b f a.holds)
-judged_once Met (Err f) (Err g) a b = ap Err (refused_once Met f g a b)
+judged_once Met (Ok u) (Err g) a b = grind (arith, a g)
+judged_once Met (Err f) (Ok v) a b = grind (arith, b f)
+judged_once Met (Err f) (Err g) a b = ap Err (refused_once number Met one_number f g a b)
 
 -- ---- one next log
 
 extends_once : (log : List Operation) → Settled log → (action : Action) (m n : List Operation) → Extends log action m → Extends log action n → m ≡ n
 extends_once log settled (Call c) m n a b = a ∙ sym b
-extends_once log settled (Reply thread reply) m n a b =
-    let e : a.op ≡ b.op = single log settled thread a.op b.op a.by b.by a.pending b.pending in
-    a.filled ∙ ap (λ x. set log x (answered (at log x) reply)) e ∙ sym b.filled
+extends_once log settled (Reply thread reply) m n a b = grind (arith, single log settled thread)
 extends_once log settled Clear m n a b = a ∙ sym b
 
 follows_once : (log : List Operation) → Settled log → (action : Action) (r : Result Unit HistoryFault) (m n : List Operation) → Follows log action r m → Follows log action r n → m ≡ n
@@ -58,9 +34,7 @@ follows_once log settled action (Ok u) m n a b = extends_once log settled action
 follows_once log settled action (Err f) m n a b = a ∙ sym b
 
 step_once : (log : List Operation) → Settled log → (action : Action) (r s : Result Unit HistoryFault) (m n : List Operation) → Step log action r m → Step log action s n → (r ≡ s) × (m ≡ n)
-step_once log settled action r s m n a b =
-    let e = judged_once (Meets log action) r s a.judged b.judged in
-    (e, follows_once log settled action s m n (subst (λ t. Follows log action t m) e a.follows) b.follows)
+step_once log settled action r s m n a b = grind (arith, judged_once (Meets log action) r s, follows_once log settled action s m n)
 
 -- ---- laws are kept
 
@@ -71,9 +45,9 @@ laws_none : Laws []
 laws_none = (ascending_none, settled_none)
 
 extends_lawful : (log : List Operation) → Laws log → (action : Action) → ((f : HistoryFault) → Meets log action f → ⊥) → (n : List Operation) → Extends log action n → Laws n
-extends_lawful log l (Call c) a n e = subst Laws (sym e) (ascending_push limit log c a l.0, settled_push limit log c a l.1)
-extends_lawful log l (Reply thread reply) a n e = subst Laws (sym e.filled) (ascending_filled log e.op reply l.0, settled_filled log e.op reply l.1)
-extends_lawful log l Clear a n e = subst Laws (sym e) laws_none
+extends_lawful log l (Call c) a n e = grind (arith, ascending_push limit log c a l.0, settled_push limit log c a l.1)
+extends_lawful log l (Reply thread reply) a n e = grind (arith, ascending_filled log e.op reply l.0, settled_filled log e.op reply l.1)
+extends_lawful log l Clear a n e = grind (arith, ascending_none, settled_none)
 
 step_lawful : (log : List Operation) → Laws log → (action : Action) (r : Result Unit HistoryFault) (n : List Operation) → Step log action r n → Laws n
 step_lawful log l action (Ok u) n s = extends_lawful log l action s.judged n s.follows
@@ -91,8 +65,8 @@ same_attempt a b f g = λ i. record { action = f i; answer = g i }
 -- the same actions from the same log get the same answers and end in the same log
 runs_once : (log : List Operation) → Laws log → (told other : List Attempt) (end last : List Operation) → actions other ≡ actions told → Runs log told end → Runs log other last → (other ≡ told) × (last ≡ end)
 runs_once log l [] [] end last e none none = (refl, refl)
-runs_once log l [] (b ∷ other) end last e r q = absurd (let n = ap length e in omega arith)
-runs_once log l (a ∷ told) [] end last e r q = absurd (let n = ap length e in omega arith)
+runs_once log l [] (b ∷ other) end last e r q = cc
+runs_once log l (a ∷ told) [] end last e r q = cc
 runs_once log l (a ∷ told) (b ∷ other) end last e (more {mid = m} {answer = r} x s rest) (more {mid = n} {answer = q} y t others) =
     let f : b.action ≡ a.action = cc in
     let g : actions other ≡ actions told = cc in

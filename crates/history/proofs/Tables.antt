@@ -1,28 +1,24 @@
 -- The sets kept beside the operations, as a log grows.
-use Rattle.std.proofs.Common.{◌≡◌, ℕ, ◌<◌, List, [], ◌∷◌, ◌++◌, length, sym, ap, subst, inl, inr, arith}
-use native.Mathlib.Decide.{ℕ_discrete, dec_lt}
-use Rattle.std.proofs.lemmas.List.{get_or_append_left, get_or_push, length_push}
+use Rattle.std.proofs.Common.{◌≡◌, ℕ, ◌<◌, List, [], ◌∷◌, ◌++◌, length, set, replicate, arith}
+use Rattle.std.proofs.lemmas.Grind.{common_steps}
+use Rattle.std.proofs.lemmas.List.{get_or_past, get_or-replicate, get_or-set_other}
 use Rattle.history.specs.declared.operations.Call.{Call}
 use Rattle.history.specs.declared.operations.HistoryFault.{HistoryFault}
 use Rattle.history.specs.declared.operations.Operation.{Operation}
 use Rattle.history.specs.declared.opset.OpSet.{OpSet}
 use Rattle.history.specs.Log.{opened}
-use Rattle.history.specs.Order.{Before, Ascending, Precedes}
+use Rattle.history.specs.Order.{Ascending, Precedes}
 use Rattle.history.specs.Refusals.{CallMeets}
-use Rattle.history.specs.Sets.{Has}
 use Rattle.history.specs.Table.{row, Keeps, KeepsOnly, Reaches}
-use Rattle.history.proofs.Gathering.{row_past}
-use Rattle.history.proofs.Orders.{before?, begins_push, begins_filled, filled_begins, carried, held, recalled, filled, new_or_old, ascending_push, new_before}
+use Rattle.history.proofs.Orders.{before?, begins_push, begins_filled, filled_begins, carried, held, recalled, filled, ascending_push, new_before}
 
 -- a set that is kept is exact, since before can be decided
 pub kept_exact : (log : List Operation) (table : List OpSet) → Ascending log → Keeps log table → KeepsOnly log table → (y : ℕ) → Precedes log y (row table y)
-kept_exact log table ascending keeps only y x = (λ h. elim (before? log ascending x y) [ yes p ↦ p | no n ↦ absurd (only x y h n) ], keeps x y)
+kept_exact log table ascending keeps only y x = grind (arith, before? log ascending x y, only x y, keeps x y)
 
-row_old : (table : List OpSet) (s : OpSet) (y : ℕ) → y < length table → row (table ++ s ∷ []) y ≡ row table y
-row_old table s y l = ap (λ o. o.bits) (get_or_append_left table (s ∷ []) (record { bits = 0 }) y l)
-
-row_new : (table : List OpSet) (s : OpSet) (y : ℕ) → length table ≡ y → row (table ++ s ∷ []) y ≡ s.bits
-row_new table s y e = ap (λ o. o.bits) (get_or_push table s (record { bits = 0 }) y e)
+-- the sets of no operations
+pub row_none : (n y : ℕ) → row (replicate n (record { bits = 0 })) y ≡ 0
+row_none n y = grind (arith, common_steps, get_or_past, get_or-replicate)
 
 module _ (limit : ℕ) (log : List Operation) (c : Call) (accepted : (f : HistoryFault) → CallMeets limit log c f → ⊥) (ascending : Ascending log) (table : List OpSet) where
   abbrev grown : List Operation
@@ -30,34 +26,17 @@ module _ (limit : ℕ) (log : List Operation) (c : Call) (accepted : (f : Histor
 
   -- the operations linked to the new one, and all that is before one of them
   pub new_row : ((y : ℕ) → Precedes log y (row table y)) → (all : ℕ) → Reaches log c table all → Precedes grown (length log) all
-  new_row exact all (direct, linked, closes) x = (there, back)
-    where
-      there : Has all x → Before grown x (length log)
-      there h = elim ((closes x).0 h) [
-        | inl d ↦ (new_before limit log c accepted ascending x).1 (inl ((linked x).0 d))
-        | inr s ↦ (new_before limit log c accepted ascending x).1 (inr (s.0, (linked s.0).0 s.1, (exact s.0 x).0 s.2))
-      ]
+  new_row exact all (direct, linked, closes) x = grind (arith, closes x, new_before limit log c accepted ascending x, linked, exact)
 
-      back : Before grown x (length log) → Has all x
-      back p = elim ((new_before limit log c accepted ascending x).0 p) [
-        | inl l ↦ (closes x).1 (inl ((linked x).1 l))
-        | inr s ↦ (closes x).1 (inr (s.0, (linked s.0).1 s.1, (exact s.0 x).1 s.2))
-      ]
+  module _ (room : length log < length table) (all : OpSet) (new : Precedes grown (length log) all.bits) where
+    abbrev longer : List OpSet
+    longer = set table (length log) all
 
-  module _ (long : length table ≡ length log) (all : OpSet) (new : Precedes grown (length log) all.bits) where
-    pub keeps_push : Keeps log table → Keeps grown (table ++ all ∷ [])
-    keeps_push keeps x y p = elim (new_or_old log (opened c) y (held grown p)) [
-      | inl e ↦ subst (λ s. Has s x) (sym (row_new table all y (omega arith))) ((new x).1 (subst (λ n. Before grown x n) e p))
-      | inr l ↦ subst (λ s. Has s x) (sym (row_old table all y (omega arith))) (keeps x y (recalled grown log (begins_push log (opened c)) (ascending_push limit log c accepted ascending) p l))
-    ]
+    pub keeps_push : Keeps log table → Keeps grown longer
+    keeps_push keeps x y p = let l = held grown p in grind (arith, common_steps, get_or-set_other, new x, keeps x y, recalled grown log (begins_push log (opened c)) (ascending_push limit log c accepted ascending))
 
-    pub only_push : KeepsOnly log table → KeepsOnly grown (table ++ all ∷ [])
-    only_push only x y h n = go (dec_lt y (length log)) (ℕ_discrete y (length log))
-      where
-        go : Dec (y < length log) → Dec (y ≡ length log) → ⊥
-        go (yes l) d = only x y (subst (λ s. Has s x) (row_old table all y (omega arith)) h) (λ p. n (carried grown log (begins_push log (opened c)) p))
-        go (no m) (yes e) = n (subst (λ z. Before grown x z) (sym e) ((new x).0 (subst (λ s. Has s x) (row_new table all y (omega arith)) h)))
-        go (no m) (no d) = row_past (table ++ all ∷ []) x y (omega (arith, length_push table all)) h
+    pub only_push : KeepsOnly log table → KeepsOnly grown longer
+    only_push only x y h n = grind (arith, common_steps, get_or-set_other, new x, only x y, carried grown log (begins_push log (opened c)))
 
 module _ (log : List Operation) (i : ℕ) (reply : ℕ × ℕ) (table : List OpSet) where
   pub keeps_filled : Keeps log table → Keeps (filled log i reply) table

@@ -1,5 +1,6 @@
 -- When a call or a reply is refused.
 use Rattle.std.specs.Prelude.{◌≡◌, ℕ, ◌<◌, ◌≤◌, ◌⊎◌, List, length, Ok, Err, Result}
+use Rattle.faults.specs.Refused as fault
 use Rattle.history.specs.declared.operations.Call.{Call}
 use Rattle.history.specs.declared.operations.HistoryFault.{HistoryFault}
 use Rattle.history.specs.declared.operations.HistoryFault.TheVariants.{UnknownThread, Full, ThreadBusy, AfterAbsent, AfterOpen, NoOpenCall, BadReply}
@@ -51,12 +52,11 @@ ReplyMeets log thread reply AfterOpen = ⊥
 ReplyMeets log thread reply NoOpenCall = (last_thread < thread) ⊎ (Busy log thread → ⊥)
 ReplyMeets log thread reply BadReply = Tagged reply → ⊥
 
--- a condition holds, and none that is checked earlier does
-pub record Refused (Meets : HistoryFault → Type 0) (f : HistoryFault) : Type 0 where
-  pub holds : Meets f
-  pub first : (g : HistoryFault) → number g < number f → Meets g → ⊥
+-- refused for the first condition that holds
+abbrev pub Refused : (HistoryFault → Type 0) → HistoryFault → Type 0
+Refused Meets f = fault.Refused number Meets f
 
--- refused for the first condition that holds, and accepted where none does
+-- so refused, or accepted where none holds
 abbrev pub Judged : (HistoryFault → Type 0) → Result Unit HistoryFault → Type 0
 Judged Meets (Ok _) = (f : HistoryFault) → Meets f → ⊥
 Judged Meets (Err f) = Refused Meets f

@@ -1,5 +1,5 @@
 // A list with a place for each element that it may ever hold.
-ghost use Rattle.std.specs.Prelude.{◌≡◌, ◌≤◌, length, ⊤};
+ghost use Rattle.std.specs.Prelude.{◌≡◌, ◌≤◌, ⊤};
 
 use std::alloc::AllocError;
 
@@ -10,7 +10,6 @@ pub struct BoundedList<T, const N: usize> {
     slots: [T; N],
     len: usize,
     ghost fits: { len ≤ N },
-    ghost whole: { length slots ≡ N },
 }
 
 impl<T: Copy, const N: usize> Copy for BoundedList<T, N> {}

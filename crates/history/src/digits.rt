@@ -59,10 +59,5 @@ pub(crate) fn next(s: u16, from: usize) -> Option<usize>
     ensures lowest { Next s from result }
     ensures bound { IfSome result (λ i. i < 16) }
 {
-    for i in from..WIDTH {
-        if has(s, i) {
-            return Some(i);
-        }
-    }
-    None
+    (from..WIDTH).find(|i| has(s, *i))
 }

@@ -4,12 +4,10 @@
 
 mod bounded;
 mod digits;
-mod gather;
 mod history;
 mod limits;
 mod operations;
 mod opset;
-mod refusals;
 mod runs;
 #[cfg(test)]
 mod tests;

@@ -1,11 +1,12 @@
 // What is recorded: calls, operations, and what may be done to a history.
-ghost use Rattle.std.specs.Prelude.{◌≡◌};
 ghost use Rattle.history.specs.Refusals.{number as refusal};
+ghost use Rattle.history.specs.Numbers.{one_number};
 
 use crate::opset::OpSet;
+use faults::Fault;
 
 // A call by a thread: its kind, its arguments, and the operations that it names as having ended before it.
-#[derive(Clone, Copy, Debug, PartialEq)]
+#[derive(Clone, Copy, Debug, Default, PartialEq)]
 pub struct Call {
     pub thread: u8,
     pub kind: u8,
@@ -15,7 +16,7 @@ pub struct Call {
 }
 
 // A call with its reply, a tag and a value; it is open while it has none.
-#[derive(Clone, Copy, Debug, PartialEq)]
+#[derive(Clone, Copy, Debug, Default, PartialEq)]
 pub struct Operation {
     pub call: Call,
     pub reply: Option<(u8, u16)>,
@@ -41,11 +42,12 @@ pub enum HistoryFault {
     BadReply,
 }
 
-impl HistoryFault {
-    // The number under which the refusal is reported.
-    pub fn number(self) -> u8
-        ensures { result ≡ refusal self }
-    {
+impl Fault for HistoryFault {
+    ghost number_of = { refusal };
+
+    ghost distinct = { one_number };
+
+    fn number(self) -> u8 {
         match self {
             HistoryFault::UnknownThread => 7,
             HistoryFault::Full => 8,

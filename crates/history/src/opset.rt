@@ -8,7 +8,7 @@ use crate::digits::{both, either, has, is_within, is_zero, next, none, with};
 
 // A set of operations. It is a 16-bit number, as in an after field: operation i is in it when the binary digit worth 2 to the
 // power i is 1.
-#[derive(Clone, Copy, Debug, PartialEq, Eq)]
+#[derive(Clone, Copy, Debug, Default, PartialEq, Eq)]
 pub struct OpSet {
     bits: u16,
 }

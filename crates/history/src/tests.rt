@@ -1,4 +1,5 @@
 use crate::{Action, Attempt, Call, History, HistoryFault, OpSet, Operation, replay};
+use faults::Fault;
 use std::process::Abort;
 use std::test::Fail;
 

@@ -19,34 +19,25 @@ impl<T: Copy, const N: usize> BoundedList<T, N> {
     pub(crate) fn as_slice(&self) -> &[T]
         ensures { result.now ≡ items self.now }
     {
-        let n = self.len;
-        let all = &self.slots[..];
-        &all[0..n]
+        &self.slots[..self.len]
     }
 
     // The list with one more value at its end.
-    pub(crate) fn with(self, x: T) -> BoundedList<T, N>
+    pub(crate) fn with(mut self, x: T) -> BoundedList<T, N>
         requires { length (items self) < N }
         ensures { items result ≡ items self ++ x ∷ [] }
     {
-        let mut slots = self.slots;
-        slots[self.len] = x;
-        BoundedList {
-            slots,
-            len: self.len + 1,
-        }
+        self.slots[self.len] = x;
+        self.len += 1;
+        self
     }
 
     // The list with another value at place i.
-    pub(crate) fn replaced(self, i: usize, x: T) -> BoundedList<T, N>
+    pub(crate) fn replaced(mut self, i: usize, x: T) -> BoundedList<T, N>
         requires { i < length (items self) }
         ensures { items result ≡ slice_set (items self) i x }
     {
-        let mut slots = self.slots;
-        slots[i] = x;
-        BoundedList {
-            slots,
-            len: self.len,
-        }
+        self.slots[i] = x;
+        self
     }
 }

@@ -10,18 +10,17 @@ ghost use Rattle.history.specs.Refusals.{CallMeets};
 ghost use Rattle.history.specs.Steps.{Step};
 
 use crate::bounded::BoundedList;
-use crate::gather::before_call;
 use crate::history::History;
+use crate::limits::LIMIT;
 use crate::operations::{Call, HistoryFault, Operation};
 use crate::opset::OpSet;
-use crate::refusals::{may_call, may_reply};
 
 impl History {
     // A history without operations.
     pub fn new() -> History
         ensures { log result ≡ [] }
     {
-        empty()
+        History::empty()
     }
 
     // The operations, in the order of their numbers.
@@ -30,14 +29,14 @@ impl History {
         ensures few { length result.now ≤ limit }
         ensures lawful { Lawful (log self.now) }
     {
-        recorded(self)
+        self.recorded()
     }
 
     // The set of the operations that happen before operation y; empty where there is no operation y.
     pub fn before(&self, y: usize) -> OpSet
         ensures { Precedes (log self.now) y result.bits }
     {
-        kept_before(self, y)
+        self.kept(y)
     }
 
     // Records a call, unless it is refused; then nothing changes.
@@ -45,8 +44,8 @@ impl History {
         ensures step { Step (log self.old) (calling call) result (log self.new) }
         ensures whole { OnErr result (self.new ≡ self.old) }
     {
-        may_call(self.operations(), call)?;
-        *self = with_call(*self, call);
+        self.may_call(call)?;
+        *self = self.with_call(call);
         Ok(())
     }
 
@@ -55,8 +54,8 @@ impl History {
         ensures step { Step (log self.old) (replying thread reply) result (log self.new) }
         ensures whole { OnErr result (self.new ≡ self.old) }
     {
-        let x = may_reply(self.operations(), thread, reply)?;
-        *self = with_reply(*self, x, reply);
+        let x = self.may_reply(thread, reply)?;
+        *self = self.with_reply(x, reply);
         Ok(())
     }
 
@@ -64,81 +63,53 @@ impl History {
     pub fn clear(&mut self)
         ensures { log self.new ≡ [] }
     {
-        *self = empty();
+        *self = History::empty();
     }
-}
 
-// What stands in a slot that holds no operation.
-fn filler() -> Call {
-    Call {
-        thread: 0,
-        kind: 0,
-        a: 0,
-        b: 0,
-        after: OpSet::new(),
+    // No operations in any slot.
+    fn empty() -> History
+        ensures { log result ≡ [] }
+    {
+        History {
+            operations: BoundedList::new(Operation::default()),
+            before: [OpSet::default(); LIMIT],
+        }
     }
-}
 
-// No operations in any slot.
-fn empty() -> History
-    ensures { log result ≡ [] }
-{
-    let call = filler();
-    History {
-        operations: BoundedList::new(Operation { call, reply: None }),
-        before: BoundedList::new(OpSet::new()),
+    // The operations, with the laws that they keep.
+    fn recorded(&self) -> &[Operation]
+        ensures all { result.now ≡ log self.now }
+        ensures few { length result.now ≤ limit }
+        ensures lawful { Lawful (log self.now) }
+    {
+        self.operations.as_slice()
     }
-}
 
-// The operations, with the laws that they keep.
-fn recorded(history: &History) -> &[Operation]
-    ensures all { result.now ≡ log history.now }
-    ensures few { length result.now ≤ limit }
-    ensures lawful { Lawful (log history.now) }
-{
-    history.operations.as_slice()
-}
-
-// The set that is kept for operation y.
-fn kept_before(history: &History, y: usize) -> OpSet
-    ensures { Precedes (log history.now) y result.bits }
-{
-    let before = history.before.as_slice();
-    if y < before.len() {
-        before[y]
-    } else {
-        OpSet::new()
+    // The history with a call more.
+    fn with_call(self, call: Call) -> History
+        requires { (f : Fault) → CallMeets limit (log self) call f → ⊥ }
+        ensures { log result ≡ log self ++ opened call ∷ [] }
+    {
+        let mut before = self.before;
+        before[self.operations().len()] = self.before_call(call);
+        History {
+            operations: self.operations.with(Operation { call, reply: None }),
+            before,
+        }
     }
-}
 
-// The history with a call more.
-fn with_call(history: History, call: Call) -> History
-    requires { (f : Fault) → CallMeets limit (log history) call f → ⊥ }
-    ensures { log result ≡ log history ++ opened call ∷ [] }
-{
-    let before = before_call(
-        history.operations.as_slice(),
-        history.before.as_slice(),
-        call,
-    );
-    History {
-        operations: history.operations.with(Operation { call, reply: None }),
-        before: history.before.with(before),
-    }
-}
-
-// The history with the reply of operation x.
-fn with_reply(history: History, x: usize, reply: (u8, u16)) -> History
-    requires { x < length (log history) }
-    ensures { log result ≡ slice_set (log history) x (answered (at (log history) x) reply) }
-{
-    let call = history.operations.as_slice()[x].call;
-    let answered = Operation {
-        call,
-        reply: Some(reply),
-    };
-    History {
-        operations: history.operations.replaced(x, answered),
-        before: history.before,
+    // The history with the reply of operation x.
+    fn with_reply(self, x: usize, reply: (u8, u16)) -> History
+        requires { x < length (log self) }
+        ensures { log result ≡ slice_set (log self) x (answered (at (log self) x) reply) }
+    {
+        let answered = Operation {
+            reply: Some(reply),
+            ..self.operations()[x]
+        };
+        History {
+            operations: self.operations.replaced(x, answered),
+            before: self.before,
+        }
     }
 }

@@ -1,14 +1,8 @@
-use Rattle.std.proofs.Common.{◌<◌, arith}
+use Rattle.std.proofs.Common.{arith}
 use Rattle.std.proofs.lemmas.Bool.Decides.{nat_tests}
 use Rattle.history.proofs.digits.has.Goals as goal
-use Rattle.history.proofs.Membership.{digit_decides, has_below}
-
-pub returns-then-i-lt-WIDTH : goal.returns-then-i-lt-WIDTH
-returns-then-i-lt-WIDTH c = digit_decides c.args.s c.args.i
+use Rattle.history.proofs.Membership.{has_below}
 
 -- no number of 16 digits has a digit further up
 pub returns-else-i-lt-WIDTH : goal.returns-else-i-lt-WIDTH
-returns-else-i-lt-WIDTH c = (
-  λ e. grind (arith, nat_tests),
-  λ h. let l : c.args.i < 16 = has_below 16 c.args.s c.args.i (omega arith) h in grind (arith, nat_tests),
-)
+returns-else-i-lt-WIDTH c = grind (arith, nat_tests, has_below 16 c.args.s)

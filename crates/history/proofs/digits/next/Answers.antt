@@ -1,9 +1,15 @@
-use Rattle.std.proofs.Common.{◌<◌, arith}
+use Rattle.std.proofs.Common.{ℕ, ◌<◌, ◌≤◌, ◌^◌, Option, MatchOption, Some, None, arith, rules}
+use Rattle.std.proofs.lemmas.Iterator.{first_from_Range}
+use Rattle.history.specs.Sets.{Has, Next}
 use Rattle.history.proofs.digits.next.Goals as goal
 use Rattle.history.proofs.Membership.{has_below}
 
-pub returns : goal.returns
-returns c = record {
-  lowest = λ j a h. let l : j < 16 = has_below 16 c.args.s j (omega arith) h in c.loop-i.invariant j a (omega arith) h;
-  bound = tt;
-}
+-- none is further up than the sixteen digits go
+next_from_first : (s from : ℕ) (found : Option ℕ) → s < 2 ^ 16 → MatchOption found ((k : ℕ) → from ≤ k → k < 16 → Has s k → ⊥) (λ i. (from ≤ i) × (i < 16) × Has s i × ((k : ℕ) → from ≤ k → k < i → Has s k → ⊥)) → Next s from found
+next_from_first s from None l f = λ j a h. f j a (has_below 16 s j l h) h
+next_from_first s from (Some i) l f = (f.0, f.2, f.3)
+
+pub returns-clause-lowest : goal.returns-clause-lowest
+returns-clause-lowest c =
+    let s = c.args.s in
+    next_from_first s c.args.from c.find.result (omega arith) (first_from_Range _ _ _ c.find.result (Has s) (λ k. Has s k → ⊥) c.find.ensures.ran (λ x q k. search rules) (λ x q k. search rules))

@@ -1,12 +1,12 @@
-use Rattle.std.proofs.Common.{◌<◌, ◌≤◌, [], length, sym, refl, ◌∙◌, subst, arith}
+use Rattle.std.proofs.Common.{◌<◌, length, ◌∙◌, arith}
 use Rattle.std.proofs.lemmas.List.{take_all}
 use Rattle.history.specs.Recorded.{log}
-use Rattle.history.specs.Steps.{Runs, none}
+use Rattle.history.specs.Steps.{none}
 use Rattle.history.proofs.Running.{replays, actions_told, runs_told}
 use Rattle.history.proofs.runs.take_all.Goals as goal
 
 pub loop-attempt-init : goal.loop-attempt-init
-loop-attempt-init c = (refl, subst (λ l. Runs [] [] l) (sym c.requires) none)
+loop-attempt-init c = grind (arith, none)
 
 pub loop-attempt-preserved : goal.loop-attempt-preserved
 loop-attempt-preserved c =
@@ -20,6 +20,4 @@ loop-attempt-preserved c =
 pub returns : goal.returns
 returns c =
     let attempts = c.loop-attempt.attempts in
-    let l : length attempts ≤ c.loop-attempt.attempt-index = omega arith in
-    let runs = subst (λ z. Runs [] z (log c.loop-attempt.history)) (take_all c.loop-attempt.attempt-index attempts l) c.loop-attempt.invariant.1 in
-    replays c.args.attempts.now attempts (log c.loop-attempt.history) c.loop-attempt.invariant.0 runs
+    grind (arith, take_all, replays c.args.attempts.now attempts (log c.loop-attempt.history))

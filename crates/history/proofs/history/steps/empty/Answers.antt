@@ -1,9 +1,0 @@
-use Rattle.std.proofs.Common.{[], sym, subst}
-use Rattle.history.specs.Bounded.{items}
-use Rattle.history.proofs.Keeping.{Kept, kept_none}
-use Rattle.history.proofs.history.steps.empty.Goals as goal
-
-pub invariant_of-result : goal.invariant_of-result
-invariant_of-result c =
-    subst (λ l. Kept l (items c.new-3.result)) (sym c.new.ensures)
-    (subst (λ t. Kept [] t) (sym c.new-3.ensures) kept_none)
