@@ -1,9 +1,10 @@
 -- The laws of sets as numbers, in terms of their members.
-use Rattle.std.proofs.Common.{◌≡◌, ℕ, ◌^◌, ◌<◌, eqb, ◌⊎◌, ◌↔◌, Decides, arith}
+use Rattle.std.proofs.Common.{◌≡◌, ℕ, ◌*◌, ◌%◌, ◌^◌, ◌<◌, ◌≤◌, eqb, ltb, ◌⊎◌, ◌↔◌, Decides, arith}
 use lib.Bits.{bit_and, bit_or}
 use Rattle.std.proofs.lemmas.Bool.Decides.{nat_tests}
+use Rattle.std.proofs.lemmas.Nat.{one_shl}
 use Rattle.std.proofs.lemmas.Nat.Bits.{bit_at_and, bit_at_or, bit_at-zero, bit_at-lt, bit_at-pow_same, bit_at-pow_other, bit_at_above, same_from_bits}
-use Rattle.history.specs.Sets.{Has, Within, Empty, Joins, Meets}
+use Rattle.history.specs.Sets.{Has, Within, Adds, Empty, Joins, Meets}
 
 pub union_joins : (s t : ℕ) → Joins s t (bit_or s t)
 union_joins s t j = grind (arith, bit_at_or, bit_at-lt)
@@ -23,16 +24,23 @@ only_has i j = grind (arith, bit_at-pow_same, bit_at-pow_other)
 pub with_has : (s i j : ℕ) → Has (bit_or s (2 ^ i)) j ↔ (Has s j ⊎ (j ≡ i))
 with_has s i j = grind (arith, union_joins, only_has)
 
+-- the digit of i, as the code makes it
+pub shifted_adds : (s i : ℕ) → i < 16 → Adds s i (bit_or s ((1 * 2 ^ i) % 65536))
+shifted_adds s i l = rw (one_shl i 16 l) (λ j. grind (arith, with_has s i))
+
 -- sets with the same members are the same number
 same_members : (s t : ℕ) → Within s t → Within t s → s ≡ t
 same_members s t f g = same_from_bits s t (λ i. grind (arith, f i, g i, bit_at-lt))
 
 -- the tests of the code
+pub none_past : (s i : ℕ) → s < 2 ^ 16 → 16 ≤ i → Decides (ltb i 16) (Has s i)
+none_past s i l n = grind (arith, nat_tests, has_below 16 s)
+
 pub within_decides : (s t : ℕ) → Decides (eqb (bit_and s t) s) (Within s t)
 within_decides s t = (λ e. grind (arith, nat_tests, intersection_meets s t), λ f. grind (arith, nat_tests, intersection_meets s t, same_members (bit_and s t) s))
 
 pub none_has : Empty 0
 none_has i h = grind (arith, bit_at-zero)
 
-pub empty_decides : (s : ℕ) → Decides (eqb s 0) (Empty s)
-empty_decides s = (λ e. grind (arith, nat_tests, none_has), λ f. grind (arith, nat_tests, none_has, same_members s 0))
+pub empty_decides : (s e : ℕ) → Empty e → Decides (eqb s e) (Empty s)
+empty_decides s e n = (λ x. grind (arith, nat_tests, n), λ f. grind (arith, nat_tests, n, same_members s e))

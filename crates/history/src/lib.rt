@@ -3,7 +3,6 @@
 #![tactic(auto)]
 
 mod bounded;
-mod digits;
 mod history;
 mod limits;
 mod operations;
