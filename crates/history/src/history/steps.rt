@@ -24,12 +24,13 @@ impl History {
     }
 
     // The operations, in the order of their numbers.
+    #[tactic(auto, using(crate::proofs::Orders::lawful))]
     pub fn operations(&self) -> &[Operation]
         ensures all { result.now ≡ log self.now }
         ensures few { length result.now ≤ limit }
         ensures lawful { Lawful (log self.now) }
     {
-        self.recorded()
+        self.operations.as_slice()
     }
 
     // The set of the operations that happen before operation y; empty where there is no operation y.
@@ -74,15 +75,6 @@ impl History {
             operations: BoundedList::new(Operation::default()),
             before: [OpSet::default(); LIMIT],
         }
-    }
-
-    // The operations, with the laws that they keep.
-    fn recorded(&self) -> &[Operation]
-        ensures all { result.now ≡ log self.now }
-        ensures few { length result.now ≤ limit }
-        ensures lawful { Lawful (log self.now) }
-    {
-        self.operations.as_slice()
     }
 
     // The history with a call more.
