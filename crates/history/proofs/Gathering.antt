@@ -3,17 +3,19 @@ use Rattle.std.proofs.Common.{◌≡◌, ℕ, Bool, true, false, ◌+◌, ◌<�
 use native.Mathlib.Decide.{dec_lt}
 use Rattle.history.specs.declared.opset.Members.{Members}
 use Rattle.history.specs.declared.opset.OpSet.{OpSet}
+use Rattle.history.specs.declared.operations.Operation.{Operation}
+use Rattle.history.specs.Log.{at}
 use Rattle.history.specs.Members.{Gives}
-use Rattle.history.specs.Sets.{Has, Adds, Joins, Next, Picks}
-use Rattle.history.specs.Table.{row}
+use Rattle.history.specs.Sets.{Has, Adds, Joins, Next}
+use Rattle.history.specs.Table.{row, Picks}
 
--- the test says true of the next number
-pub picks_more : (n : ℕ) (Says : ℕ → Bool → Type 0) (s t : ℕ) → n < 16 → Says n true → Adds s n t → Picks n Says s → Picks (n + 1) Says t
-picks_more n Says s t l says adds picks x = grind (arith, picks x, adds x)
+-- the test says true of the next operation
+pub picks_more : (log : List Operation) (Says : Operation → Bool → Type 0) (n s t : ℕ) → n < 16 → Says (at log n) true → Adds s n t → Picks log Says n s → Picks log Says (n + 1) t
+picks_more log Says n s t l says adds picks x = grind (arith, picks x, adds x)
 
 -- or false
-pub picks_less : (n : ℕ) (Says : ℕ → Bool → Type 0) (s : ℕ) → Says n false → Picks n Says s → Picks (n + 1) Says s
-picks_less n Says s says picks x = (λ h. grind (arith, picks x), λ k. elim (dec_lt x n) [ yes m ↦ (picks x).1 m | no m ↦ (false, grind arith, grind (arith, picks x)) ])
+pub picks_less : (log : List Operation) (Says : Operation → Bool → Type 0) (n s : ℕ) → Says (at log n) false → Picks log Says n s → Picks log Says (n + 1) s
+picks_less log Says n s says picks x = (λ h. grind (arith, picks x), λ k. elim (dec_lt x n) [ yes m ↦ (picks x).1 m | no m ↦ (false, grind arith, grind (arith, picks x)) ])
 
 -- a set with all that a table has for its members below n
 abbrev pub ClosedBelow : ℕ → ℕ → List OpSet → ℕ → Type 0

@@ -1,5 +1,5 @@
 -- Sets of operations as numbers: operation i is in a set when the binary digit worth 2 to the power i is 1.
-use Rattle.std.specs.Prelude.{◌≡◌, ℕ, Bool, Decides, ◌/◌, ◌%◌, ◌^◌, ◌<◌, ◌≤◌, ◌⊎◌, ◌↔◌, Option, MatchOption}
+use Rattle.std.specs.Prelude.{◌≡◌, ℕ, ◌/◌, ◌%◌, ◌^◌, ◌<◌, ◌≤◌, ◌⊎◌, ◌↔◌, Option, MatchOption}
 
 -- operation i is in the set s
 abbrev pub Has : ℕ → ℕ → Type 0
@@ -30,7 +30,3 @@ abbrev pub Next : ℕ → ℕ → Option ℕ → Type 0
 Next s from found =
     MatchOption found ((j : ℕ) → from ≤ j → Has s j → ⊥)
     (λ i. (from ≤ i) × Has s i × ((j : ℕ) → from ≤ j → j < i → Has s j → ⊥))
-
--- s has those below n of which a test says true
-abbrev pub Picks : ℕ → (ℕ → Bool → Type 0) → ℕ → Type 0
-Picks n Says s = (x : ℕ) → (Has s x → x < n) × (x < n → (b : Bool) × Says x b × Decides b (Has s x))

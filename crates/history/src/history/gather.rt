@@ -1,11 +1,11 @@
 // Sets of operations, gathered from the log.
 ghost use Rattle.std.specs.Prelude.{◌≡◌, ℕ, ◌↔◌, length};
 ghost use Rattle.std.specs.Fn.{FnReturnsAt};
-ghost use Rattle.history.specs.Log.{at, By, Open};
+ghost use Rattle.history.specs.Log.{By, Open};
 ghost use Rattle.history.specs.Order.{Precedes};
 ghost use Rattle.history.specs.Recorded.{log};
-ghost use Rattle.history.specs.Sets.{Has, Picks};
-ghost use Rattle.history.specs.Table.{row, Linked, Closes, Reaches};
+ghost use Rattle.history.specs.Sets.{Has};
+ghost use Rattle.history.specs.Table.{row, Picks, Linked, Closes, Reaches};
 
 use crate::history::History;
 use crate::operations::{Call, Operation};
@@ -15,7 +15,7 @@ impl History {
     // The operations that pass a test.
     fn operations_where<F: Fn(&Operation) -> bool>(&self, test: F) -> OpSet
         requires { F.IsAlwaysCallable test }
-        ensures { Picks (length (log self.now)) (λ x. FnReturnsAt F.Fn test (at (log self.now) x)) result.bits }
+        ensures { Picks (log self.now) (FnReturnsAt F.Fn test) (length (log self.now)) result.bits }
     {
         let mut found = OpSet::new();
         for (x, operation) in self.operations().iter().enumerate() {

@@ -94,9 +94,7 @@ impl History {
         if is_unknown(thread) {
             return Err(HistoryFault::NoOpenCall);
         }
-        let Some(x) = self.open_operation(thread) else {
-            return Err(HistoryFault::NoOpenCall);
-        };
+        let x = self.open_operation(thread).ok_or(HistoryFault::NoOpenCall)?;
         if !is_tagged(reply) {
             return Err(HistoryFault::BadReply);
         }
