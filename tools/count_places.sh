@@ -1,7 +1,7 @@
 #!/bin/sh
 # Counts the places in src/, tests left out, that docs/DESIGN-PASS.md speaks of. With the argument `-v` it prints each of them.
 cd "$(dirname "$0")/.." || exit 1
-code() { find crates -path '*/src/*' -name '*.rt' ! -name tests.rt | sort; }
+code() { find crates -path '*/out' -prune -o -path '*/src/*' -name '*.rt' ! -name tests.rt -print | sort; }
 hits() { code | xargs grep -nE "$1" | grep -vE '^[^:]*:[0-9]+: *//'; }
 show() { # a title, and the places on standard input
     places=$(cat)
@@ -24,6 +24,6 @@ hits 'IfOk result \(λ s\. string_bytes s|OnOk result \(string_bytes' | show '5 
 hits 'fn .*\(([^,)]*,){2}' | show '5  three parameters or more'
 hits '\[[A-Za-z]+; [A-Z]+\]|: BoundedList<|\blen: usize' | show '6  arrays with a length, arrays side by side'
 hits '\bmatch |\bfn\(|\bdyn ' | show '7  matches, function pointers, dyn'
-find crates -name Answers.antt | xargs grep -hE '^pub .* : goal' | show '8  goals answered by hand'
-find crates -path '*/proofs/*' -name '*.antt' ! -name Answers.antt ! -name Invariants.antt | xargs grep -hE '^ *(pub )?[a-z][a-z_?-]* :' |
+find crates -path '*/out' -prune -o -name Answers.antt -print | xargs grep -hE '^pub .* : goal' | show '8  goals answered by hand'
+find crates -path '*/out' -prune -o -path '*/proofs/*' -name '*.antt' ! -name Answers.antt ! -name Invariants.antt -print | xargs grep -hE '^ *(pub )?[a-z][a-z_?-]* :' |
     show '8  lemmas and their helpers'

@@ -1,7 +1,8 @@
 // Records in words.
-ghost use Rattle.std.specs.Prelude.{◌≡◌, ◌<◌, Some};
-ghost use Rattle.listing.specs.Words.{answer, named, names, printing, escaped, quoted, words};
+ghost use Rattle.std.specs.Prelude.{◌≡◌, Some};
+ghost use Rattle.listing.specs.Words.{answer, names, printing, escaped, quoted, words};
 
+use history::OpSet;
 use std::fmt;
 use trace::{Lettered, Record};
 
@@ -23,30 +24,19 @@ impl fmt::Display for Answer {
     }
 }
 
-// Whether an after field names operation i: its binary digit for 2 to the power i is 1.
-fn names_operation(after: u16, i: u16) -> bool
-    requires { i < 16 }
-    ensures { result ≡ named after i }
-{
-    (after >> i) % 2 == 1
-}
-
 // The operations that an after field names, each behind a space.
 #[derive(Clone, Copy)]
-struct After(u16);
+struct After(OpSet);
 
 impl fmt::Display for After {
-    ghost output = { λ a. Some (names a.0) };
+    ghost output = { λ a. Some (names a.0.bits) };
 
     fn fmt<W: fmt::Write>(&self, f: &mut fmt::Formatter<W>) -> fmt::Result {
-        let after = self.0;
-        if after == 0 {
+        if self.0.is_empty() {
             return write!(f, " none");
         }
-        for i in 0..16u16 {
-            if names_operation(after, i) {
-                write!(f, " {i}")?;
-            }
+        for i in self.0.iter() {
+            write!(f, " {i}")?;
         }
         Ok(())
     }
@@ -111,7 +101,7 @@ impl fmt::Display for Words<'_> {
                 write!(
                     f,
                     "call: thread {thread}, kind {kind}, a {a}, b {b}, after{}",
-                    After(after)
+                    After(OpSet::from_bits(after))
                 )
             }
             Record::Reply { thread, tag, value } => {

@@ -1,25 +1,31 @@
-use Rattle.std.proofs.Common.{◌≡◌, ◌++◌, codes, decimal, sym, ap, ◌∙◌, arith, rules}
-use Rattle.std.proofs.lemmas.Bool.{cond-false, ne_eqb}
+use Rattle.std.proofs.Common.{◌++◌, Some, None, codes, decimal, sym, ap, ◌∙◌, subst, arith, rules}
+use Rattle.std.proofs.Output.{has_written_of_eq}
 use Rattle.std.proofs.lemmas.Grind.{put_two}
-use Rattle.listing.specs.Words.{names, names_below}
-use Rattle.listing.proofs.Names.{names_more}
+use Rattle.history.specs.Sets.{Next}
+use Rattle.listing.specs.Words.{names_below}
+use Rattle.listing.proofs.Names.{names_next, names_all, names_none}
 use Rattle.listing.proofs.words.AfterDisplay.fmt.Goals as goal
-use Rattle.listing.proofs.words.AfterDisplay.fmt.Goals.{then-names_operation+in_ok-write, else-names_operation}
 
-pub returns-then-after-eq0-clause-writes : goal.returns-then-after-eq0-clause-writes
-unfolding names
-returns-then-after-eq0-clause-writes g c = search rules
+pub returns-then-is_empty-clause-writes : goal.returns-then-is_empty-clause-writes
+returns-then-is_empty-clause-writes g c = λ plain ok.
+    has_written_of_eq _ _ _ _ _ (names_none c.args.self.now.0.bits (c.is_empty.ensures.0 c.if-is_empty.true)) (search rules)
 
 pub loop-i-preserved : goal.loop-i-preserved
-loop-i-preserved g c = λ plain.
-    elim c.if-names_operation.branch [
-      | then-names_operation+in_ok-write w ↦ let so_far = c.loop-i.invariant plain in put_two _ _ _ _ _ (codes " " ++ decimal c.loop-i.i-counter) _ so_far (search rules) (search (rules, names_more))
-      | else-names_operation w ↦ let so_far = c.loop-i.invariant plain in search (rules, names_more)
-    ]
+loop-i-preserved g c =
+    let i = c.loop-i.invariant in
+    let after = c.args.self.now.0.bits in
+    let given = c.in-Some.ensures.steps in
+    let next : Next after c.loop-i.i-iterator.from (Some c.in-Some.i) = subst (λ s. Next s.bits c.loop-i.i-iterator.from (Some c.in-Some.i)) i.2 given.1 in (
+      tt,
+      tt,
+      given.0 ∙ i.2,
+      omega (arith, given.2.0, given.2.1),
+      λ plain. put_two _ _ _ _ _ (codes " " ++ decimal c.in-Some.i) _ (i.4 plain) (search rules) (names_next after _ _ next ∙ ap (λ n. names_below n after) (sym given.2.0)),
+    )
 
 pub returns-clause-writes : goal.returns-clause-writes
-unfolding names
 returns-clause-writes g c = λ plain ok.
-    let end : c.loop-i.i-counter ≡ 16 = omega arith in
-    let all = ap (λ n. names_below n c.args.self.now.0) end ∙ sym (cond-false _ _ _ (ne_eqb c.args.self.now.0 0 c.if-after-eq0.false)) in
-    rw all at (c.loop-i.invariant plain)
+    let i = c.loop-i.invariant in
+    let after = c.args.self.now.0.bits in
+    let none : Next after c.loop-i.i-iterator.from None = subst (λ s. Next s.bits c.loop-i.i-iterator.from None) i.2 c.in-None.ensures.steps.1 in
+    has_written_of_eq _ _ _ _ _ (names_all after _ (λ e. search rules) i.3 none) (i.4 plain)
