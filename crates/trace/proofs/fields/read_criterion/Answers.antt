@@ -8,4 +8,4 @@ use Rattle.trace.proofs.fields.read_criterion.Goals as goal
 pub returns-in_err-choice : goal.returns-in_err-choice
 returns-in_err-choice c =
     let p = err_from_is_err_and c.from_residual.result c.from_residual.ensures.1 in
-    rw (p.1, p.2) (unchosen letter.criterion criterion _ refl (λ h. h) _ c.in_err-choice.ensures)
+    rw (p.1, p.2) (unchosen criterion _ letter.criterion refl (λ h. h) _ c.in_err-choice.ensures)
