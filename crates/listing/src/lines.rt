@@ -63,6 +63,7 @@ impl fmt::Display for LastLine {
 }
 
 // The lines of all records up to the trace's end or to the first refusal, and the last line.
+#[tactic(auto, using(trace::proofs::Tiling::passed_none))]
 fn all_lines(heap: Global, trace: &[u8]) -> Result<String, AllocError>
     ensures { IfOk result (λ s. Lists trace.now (string_bytes s)) }
 {

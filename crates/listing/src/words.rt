@@ -38,6 +38,7 @@ struct After(u16);
 impl fmt::Display for After {
     ghost output = { λ a. Some (names a.0) };
 
+    #[tactic(auto, using(crate::proofs::Names::naming), unfolding(crate::specs::Words::names))]
     fn fmt<W: fmt::Write>(&self, f: &mut fmt::Formatter<W>) -> fmt::Result {
         let after = self.0;
         if after == 0 {
@@ -66,6 +67,7 @@ struct Escaped(u8);
 impl fmt::Display for Escaped {
     ghost output = { λ e. Some (escaped e.0) };
 
+    #[tactic(auto, using(std::proofs::lemmas::Fmt::hex_byte))]
     fn fmt<W: fmt::Write>(&self, f: &mut fmt::Formatter<W>) -> fmt::Result {
         let byte = self.0;
         if prints(byte) {
@@ -99,6 +101,7 @@ pub(crate) struct Words<'a>(pub(crate) Record<'a>);
 impl fmt::Display for Words<'_> {
     ghost output = { λ w. Some (words w.0) };
 
+    #[tactic(auto, using(crate::proofs::Names::naming))]
     fn fmt<W: fmt::Write>(&self, f: &mut fmt::Formatter<W>) -> fmt::Result {
         match self.0 {
             Record::Call {

@@ -1,19 +1,19 @@
 -- Records that stand one behind the other.
-use Rattle.std.proofs.Common.{◌≡◌, ℕ, suc, ◌+◌, ◌-◌, ◌≤◌, List, [], ◌∷◌, ◌++◌, length, drop, Some, None, Ok, Err, Result, sym, refl, ap, subst, arith, length-append}
+use Rattle.std.proofs.Common.{◌≡◌, ℕ, suc, ◌+◌, ◌-◌, ◌≤◌, List, [], ◌∷◌, ◌++◌, length, take, drop, Some, Ok, Err, Result, sym, refl, ap, subst, arith, length-append}
 use Rattle.std.proofs.lemmas.Grind.{common_steps}
-use Rattle.std.proofs.lemmas.List.{drop-drop, drop_at}
+use Rattle.std.proofs.lemmas.List.{drop-drop, drop_at, take_rest}
 use Rattle.trace.specs.declared.reader.Reader.{Reader}
 use Rattle.trace.specs.declared.records.Placed.{Placed}
 use Rattle.trace.specs.declared.records.Refusal.{Refusal}
 use Rattle.trace.specs.Format.{bytes, Settable}
-use Rattle.trace.specs.Reading.{Stands, Answers, Tiles, none, more, Parses, Counts}
-use Rattle.trace.proofs.Unique.{met_not, one_answer}
+use Rattle.trace.specs.Reading.{Stands, Answers, Reads, Tiles, none, more, Parses, Counts}
+use Rattle.trace.proofs.Unique.{met_not, one_answer, reads}
 
--- the record at the front of what is left of a trace stands there
-pub stands : (trace : List ℕ) (p : Placed) (behind : List ℕ) → p.at ≤ length trace → drop p.at trace ≡ bytes p.record ++ behind → Settable p.record → Stands trace p.at p (length trace - length behind)
-stands trace p behind h e ok =
+-- the record at the front of what is left of a trace is the answer there
+pub placed : (trace : List ℕ) (p : Placed) (behind : List ℕ) → p.at ≤ length trace → take (length trace - p.at) (drop p.at trace) ≡ bytes p.record ++ behind → Settable p.record → Reads trace p.at (Ok (Some p)) (length trace - length behind)
+placed trace p behind h e ok =
     let own = bytes p.record in
-    grind (arith, common_steps, length-append own behind, drop-drop (length own) p.at trace, drop_at own behind (length own))
+    reads trace p.at (grind (arith, common_steps, take_rest trace p.at, length-append own behind, drop-drop (length own) p.at trace, drop_at own behind (length own)))
 
 -- reading goes no further: no record stands there
 abbrev Halts : List ℕ → ℕ → Type 0
@@ -58,12 +58,5 @@ pub record Passed (trace : List ℕ) (r : Reader) (count : ℕ) (ps : List Place
 pub passed_none : (trace : List ℕ) (r : Reader) → r.trace.now ≡ trace → r.at ≡ 0 → Passed trace r 0 []
 passed_none trace r same start = grind (arith, none)
 
-module _ {trace : List ℕ} {r : Reader} {count : ℕ} {ps : List Placed} (past : Passed trace r count ps) where
-  pub passed_more : (s : Reader) (p : Placed) → s.trace ≡ r.trace → Answers r.trace.now r.at (Ok (Some p)) s.at → Passed trace s (count + 1) (ps ++ p ∷ [])
-  passed_more s p kept read = grind (arith, common_steps, tiles_push)
-
-  pub passed_end : (n : ℕ) → Answers r.trace.now r.at (Ok None) n → Parses trace ps (Ok count)
-  passed_end n read = grind arith
-
-  pub passed_refused : (x : Refusal) (n : ℕ) → Answers r.trace.now r.at (Err x) n → Parses trace ps (Err x)
-  passed_refused x n read = grind arith
+pub passed_more : {trace : List ℕ} {r : Reader} {count : ℕ} {ps : List Placed} → Passed trace r count ps → (s : Reader) (p : Placed) → s.trace ≡ r.trace → Answers r.trace.now r.at (Ok (Some p)) s.at → Passed trace s (count + 1) (ps ++ p ∷ [])
+passed_more past s p kept read = grind (arith, common_steps, tiles_push)

@@ -32,6 +32,7 @@ fn word(high: u8, low: u8) -> u16
     u16::from_be_bytes([high, low])
 }
 
+#[tactic(auto, using(crate::proofs::Marks::behind_call))]
 fn read_call<'a>(fields: &'a [u8]) -> Taken<'a>
     ensures { Front (mark call ++ fields.now) result }
 {
@@ -53,6 +54,7 @@ fn read_call<'a>(fields: &'a [u8]) -> Taken<'a>
     ))
 }
 
+#[tactic(auto, using(crate::proofs::Marks::behind_reply))]
 fn read_reply<'a>(fields: &'a [u8]) -> Taken<'a>
     ensures { Front (mark reply ++ fields.now) result }
 {
@@ -80,6 +82,7 @@ fn read_choice<'a, C: Lettered>(fields: &'a [u8]) -> Result<(C, &'a [u8]), ReadF
     Ok((C::try_from(*letter)?, rest))
 }
 
+#[tactic(auto, using(crate::proofs::Marks::behind_object))]
 fn read_object<'a>(fields: &'a [u8]) -> Taken<'a>
     ensures { Front (mark object ++ fields.now) result }
 {
@@ -87,6 +90,7 @@ fn read_object<'a>(fields: &'a [u8]) -> Taken<'a>
     Ok((Record::Object(choice), rest))
 }
 
+#[tactic(auto, using(crate::proofs::Marks::behind_criterion))]
 fn read_criterion<'a>(fields: &'a [u8]) -> Taken<'a>
     ensures { Front (mark criterion ++ fields.now) result }
 {
@@ -104,6 +108,7 @@ fn level_for(kind: u8, letter: u8) -> Result<Level, UnknownLetter>
     Level::try_from(letter)
 }
 
+#[tactic(auto, using(crate::proofs::Marks::behind_level))]
 fn read_level<'a>(fields: &'a [u8]) -> Taken<'a>
     ensures { Front (mark level ++ fields.now) result }
 {
@@ -121,6 +126,7 @@ fn split_text(size: u8, bytes: &[u8]) -> Option<(&[u8], &[u8])>
     bytes.split_at_checked(size as usize)
 }
 
+#[tactic(auto, using(crate::proofs::Marks::behind_note))]
 fn read_note<'a>(fields: &'a [u8]) -> Taken<'a>
     ensures { Front (mark note ++ fields.now) result }
 {
