@@ -37,6 +37,9 @@ kept_none n = record {
   only = λ x y h f. none_has x (subst (λ s. Has s x) (row_none n y) h);
 }
 
+pub none_kept : Kept [] (replicate 12 (record { bits = 0 }))
+none_kept = kept_none 12
+
 -- a call that is accepted, with the set of what is before it
 pub kept_push : (limit : ℕ) (log : List Operation) (table : List OpSet) (c : Call) → ((f : HistoryFault) → CallMeets limit log c f → ⊥) → Kept log table → length log < length table → (all : OpSet) → Reaches log c table all.bits → Kept (log ++ opened c ∷ []) (set table (length log) all)
 kept_push limit log table c accepted k room all reaches =

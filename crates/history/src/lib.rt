@@ -11,6 +11,7 @@ mod runs;
 #[cfg(test)]
 mod tests;
 
+pub use faults::Fault;
 pub use history::History;
 pub use limits::{LAST_THREAD, LIMIT};
 pub use operations::{Action, Attempt, Call, HistoryFault, Operation};

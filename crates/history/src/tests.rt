@@ -1,5 +1,4 @@
-use crate::{Action, Attempt, Call, History, HistoryFault, OpSet, Operation, replay};
-use faults::Fault;
+use crate::{Action, Attempt, Call, Fault, History, HistoryFault, OpSet, Operation, replay};
 use std::process::Abort;
 use std::test::Fail;
 

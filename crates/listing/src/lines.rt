@@ -4,11 +4,10 @@ ghost use Rattle.listing.specs.Lines.{line, last, Lists, Listed};
 ghost use Rattle.listing.specs.declared.lines.ListFault.TheVariants.{Memory};
 
 use crate::words::Words;
-use faults::Fault;
 use std::alloc::{AllocError, Global};
 use std::fmt;
 use thiserror::Error;
-use trace::{Placed, Reader, Refusal};
+use trace::{Fault, Placed, Reader, Refusal};
 
 // The longest trace, in bytes.
 pub(crate) const LONGEST: usize = 4096;
@@ -63,6 +62,7 @@ impl fmt::Display for LastLine {
 }
 
 // The lines of all records up to the trace's end or to the first refusal, and the last line.
+#[tactic(auto, using(trace::proofs::Tiling::passed_none))]
 fn all_lines(heap: Global, trace: &[u8]) -> Result<String, AllocError>
     ensures { IfOk result (λ s. Lists trace.now (string_bytes s)) }
 {

@@ -31,6 +31,7 @@ struct After(OpSet);
 impl fmt::Display for After {
     ghost output = { λ a. Some (names a.0.bits) };
 
+    #[tactic(auto, using(crate::proofs::Names::names_none))]
     fn fmt<W: fmt::Write>(&self, f: &mut fmt::Formatter<W>) -> fmt::Result {
         if self.0.is_empty() {
             return write!(f, " none");
@@ -56,6 +57,7 @@ struct Escaped(u8);
 impl fmt::Display for Escaped {
     ghost output = { λ e. Some (escaped e.0) };
 
+    #[tactic(auto, using(std::proofs::lemmas::Fmt::hex_byte))]
     fn fmt<W: fmt::Write>(&self, f: &mut fmt::Formatter<W>) -> fmt::Result {
         let byte = self.0;
         if prints(byte) {
@@ -89,6 +91,7 @@ pub(crate) struct Words<'a>(pub(crate) Record<'a>);
 impl fmt::Display for Words<'_> {
     ghost output = { λ w. Some (words w.0) };
 
+    #[tactic(auto, using(crate::proofs::Names::naming))]
     fn fmt<W: fmt::Write>(&self, f: &mut fmt::Formatter<W>) -> fmt::Result {
         match self.0 {
             Record::Call {

@@ -5,7 +5,6 @@ use Rattle.faults.specs.Refused as fault
 use Rattle.trace.specs.declared.letters.ObjectChoice.{ObjectChoice}
 use Rattle.trace.specs.declared.letters.CriterionChoice.{CriterionChoice}
 use Rattle.trace.specs.declared.letters.Level.{Level}
-use Rattle.trace.specs.declared.letters.UnknownLetter.{UnknownLetter}
 use Rattle.trace.specs.declared.records.Record.{Record}
 use Rattle.trace.specs.declared.records.ReadFault.{ReadFault}
 use Rattle.trace.specs.declared.records.ReadFault.TheVariants.{OneByteLeft, UnknownMark, PastEnd, BadLetter}
@@ -65,7 +64,7 @@ Chosen letter fs (Err UnknownMark) = ⊥
 Chosen letter fs (Err PastEnd) = length fs < 1
 Chosen {X} letter fs (Err BadLetter) = (1 ≤ length fs) × ((x : X) → letter x ≢ slice_index fs 0)
 
--- what a letter sets for a kind: a level for one of the kinds 0 to 7, or none
-abbrev pub Sets : ℕ → ℕ → Result Level UnknownLetter → Type 0
+-- what a letter sets for a kind: a level for one of the kinds 0 to 7, or a refusal
+abbrev pub Sets : ℕ → ℕ → Result Level ReadFault → Type 0
 Sets kind b (Ok l) = (kind ≤ 7) × (letter.level l ≡ b)
-Sets kind b (Err _) = (7 < kind) ⊎ ((l : Level) → letter.level l ≢ b)
+Sets kind b (Err f) = (f ≡ BadLetter) × ((7 < kind) ⊎ ((l : Level) → letter.level l ≢ b))

@@ -3,7 +3,7 @@ ghost use Rattle.std.specs.Prelude.{◌≡◌, ◌/◌, ◌%◌, ◌<◌, ◌≤
 ghost use Rattle.trace.specs.Format.{mark, call, reply, object, criterion, level, note};
 ghost use Rattle.trace.specs.Refusals.{Front, Chosen, Sets};
 
-use crate::letters::{Lettered, Level, UnknownLetter};
+use crate::letters::{Lettered, Level};
 use crate::records::{ReadFault, Record};
 
 const CALL: [u8; 2] = *b"CA";
@@ -32,6 +32,7 @@ fn word(high: u8, low: u8) -> u16
     u16::from_be_bytes([high, low])
 }
 
+#[tactic(auto, using(crate::proofs::Marks::behind_each))]
 fn read_call<'a>(fields: &'a [u8]) -> Taken<'a>
     ensures { Front (mark call ++ fields.now) result }
 {
@@ -53,6 +54,7 @@ fn read_call<'a>(fields: &'a [u8]) -> Taken<'a>
     ))
 }
 
+#[tactic(auto, using(crate::proofs::Marks::behind_each))]
 fn read_reply<'a>(fields: &'a [u8]) -> Taken<'a>
     ensures { Front (mark reply ++ fields.now) result }
 {
@@ -80,6 +82,7 @@ fn read_choice<'a, C: Lettered>(fields: &'a [u8]) -> Result<(C, &'a [u8]), ReadF
     Ok((C::try_from(*letter)?, rest))
 }
 
+#[tactic(auto, using(crate::proofs::Marks::behind_each))]
 fn read_object<'a>(fields: &'a [u8]) -> Taken<'a>
     ensures { Front (mark object ++ fields.now) result }
 {
@@ -87,6 +90,7 @@ fn read_object<'a>(fields: &'a [u8]) -> Taken<'a>
     Ok((Record::Object(choice), rest))
 }
 
+#[tactic(auto, using(crate::proofs::Marks::behind_each))]
 fn read_criterion<'a>(fields: &'a [u8]) -> Taken<'a>
     ensures { Front (mark criterion ++ fields.now) result }
 {
@@ -95,15 +99,16 @@ fn read_criterion<'a>(fields: &'a [u8]) -> Taken<'a>
 }
 
 // The level that a letter sets for a kind of call.
-fn level_for(kind: u8, letter: u8) -> Result<Level, UnknownLetter>
+fn level_for(kind: u8, letter: u8) -> Result<Level, ReadFault>
     ensures { Sets kind letter result }
 {
     if kind > LAST_KIND {
-        return Err(UnknownLetter);
+        return Err(ReadFault::BadLetter);
     }
-    Level::try_from(letter)
+    Ok(Level::try_from(letter)?)
 }
 
+#[tactic(auto, using(crate::proofs::Marks::behind_each))]
 fn read_level<'a>(fields: &'a [u8]) -> Taken<'a>
     ensures { Front (mark level ++ fields.now) result }
 {
@@ -121,15 +126,14 @@ fn split_text(size: u8, bytes: &[u8]) -> Option<(&[u8], &[u8])>
     bytes.split_at_checked(size as usize)
 }
 
+#[tactic(auto, using(crate::proofs::Marks::behind_each))]
 fn read_note<'a>(fields: &'a [u8]) -> Taken<'a>
     ensures { Front (mark note ++ fields.now) result }
 {
     let [size, bytes @ ..] = fields else {
         return Err(ReadFault::PastEnd);
     };
-    let Some((text, rest)) = split_text(*size, bytes) else {
-        return Err(ReadFault::PastEnd);
-    };
+    let (text, rest) = split_text(*size, bytes).ok_or(ReadFault::PastEnd)?;
     Ok((Record::Note(text), rest))
 }
 

@@ -9,6 +9,7 @@ mod records;
 #[cfg(test)]
 mod tests;
 
+pub use faults::Fault;
 pub use letters::{CriterionChoice, Lettered, Level, ObjectChoice, UnknownLetter};
 pub use reader::{Reader, count_records};
 pub use records::{Placed, ReadFault, Record, Refusal};

@@ -1,8 +1,7 @@
 use crate::{
-    CriterionChoice, Lettered, Level, ObjectChoice, Placed, ReadFault, Reader, Record, Refusal,
-    count_records,
+    CriterionChoice, Fault, Lettered, Level, ObjectChoice, Placed, ReadFault, Reader, Record,
+    Refusal, count_records,
 };
-use faults::Fault;
 use std::process::Abort;
 use std::test::Fail;
 

@@ -1,16 +1,16 @@
-// Lists that grow and change by being made anew.
+// A list is handed back grown or changed.
 ghost use Rattle.std.specs.Prelude.{◌≡◌, ◌<◌, [], ◌∷◌, ◌++◌, length, slice_set};
 ghost use Rattle.history.specs.Bounded.{items};
 
 use crate::bounded::BoundedList;
 
-impl<T: Copy, const N: usize> BoundedList<T, N> {
-    // The empty list. The filler is what its slots hold meanwhile.
-    pub(crate) fn new(filler: T) -> BoundedList<T, N>
+impl<T: Copy + Default, const N: usize> BoundedList<T, N> {
+    // The empty list. Its slots hold defaults meanwhile.
+    pub(crate) fn new() -> BoundedList<T, N>
         ensures { items result ≡ [] }
     {
         BoundedList {
-            slots: [filler; N],
+            slots: [T::default(); N],
             len: 0,
         }
     }

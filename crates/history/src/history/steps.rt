@@ -1,7 +1,7 @@
 // Recording calls and replies.
 ghost use Rattle.std.specs.Prelude.{◌≡◌, ◌<◌, ◌≤◌, [], ◌∷◌, ◌++◌, length, OnErr, slice_set};
 ghost use Rattle.history.specs.declared.operations.Action.TheVariants.{Call as calling, Reply as replying};
-ghost use Rattle.history.specs.declared.operations.HistoryFault.{HistoryFault as Fault};
+ghost use Rattle.history.specs.declared.operations.HistoryFault.{HistoryFault};
 ghost use Rattle.history.specs.Limits.{limit};
 ghost use Rattle.history.specs.Log.{at, opened, answered};
 ghost use Rattle.history.specs.Order.{Precedes, Lawful};
@@ -17,10 +17,14 @@ use crate::opset::OpSet;
 
 impl History {
     // A history without operations.
+    #[tactic(auto, using(crate::proofs::Keeping::none_kept))]
     pub fn new() -> History
         ensures { log result ≡ [] }
     {
-        History::empty()
+        History {
+            operations: BoundedList::new(),
+            before: [OpSet::default(); LIMIT],
+        }
     }
 
     // The operations, in the order of their numbers.
@@ -64,22 +68,12 @@ impl History {
     pub fn clear(&mut self)
         ensures { log self.new ≡ [] }
     {
-        *self = History::empty();
-    }
-
-    // No operations in any slot.
-    fn empty() -> History
-        ensures { log result ≡ [] }
-    {
-        History {
-            operations: BoundedList::new(Operation::default()),
-            before: [OpSet::default(); LIMIT],
-        }
+        *self = History::new();
     }
 
     // The history with a call more.
     fn with_call(self, call: Call) -> History
-        requires { (f : Fault) → CallMeets limit (log self) call f → ⊥ }
+        requires { (f : HistoryFault) → CallMeets limit (log self) call f → ⊥ }
         ensures { log result ≡ log self ++ opened call ∷ [] }
     {
         let mut before = self.before;

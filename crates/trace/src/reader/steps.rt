@@ -59,6 +59,7 @@ impl<'a> Reader<'a> {
 }
 
 // How many records a reader still gives, or the refusal that it comes to.
+#[tactic(auto, using(crate::proofs::Tiling::passed_none))]
 fn count_left(mut reader: Reader) -> Result<usize, Refusal>
     requires { reader.at ≡ 0 }
     ensures { Counts reader.entry.trace.now result }
