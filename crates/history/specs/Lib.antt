@@ -4,6 +4,7 @@ pub mod Bounded
 pub mod Limits
 pub mod Log
 pub mod Refusals
+pub mod Answers
 pub mod Numbers
 pub mod Order
 pub mod Table

@@ -2,6 +2,7 @@
 
 #![tactic(auto)]
 
+mod answers;
 mod bounded;
 mod history;
 mod limits;
@@ -11,6 +12,7 @@ mod runs;
 #[cfg(test)]
 mod tests;
 
+pub use answers::{Answer, UnknownAnswer};
 pub use faults::Fault;
 pub use history::History;
 pub use limits::{LAST_THREAD, LIMIT};

@@ -1,7 +1,10 @@
 // What is recorded: calls, operations, and what may be done to a history.
+ghost use Rattle.std.specs.Prelude.{◌≡◌};
+ghost use Rattle.history.specs.declared.operations.HistoryFault.TheVariants.{BadReply};
 ghost use Rattle.history.specs.Refusals.{number as refusal};
 ghost use Rattle.history.specs.Numbers.{one_number};
 
+use crate::answers::UnknownAnswer;
 use crate::opset::OpSet;
 use faults::Fault;
 
@@ -57,6 +60,14 @@ impl Fault for HistoryFault {
             HistoryFault::NoOpenCall => 12,
             HistoryFault::BadReply => 13,
         }
+    }
+}
+
+impl From<UnknownAnswer> for HistoryFault {
+    ghost from_gives = { λ _ f. f ≡ BadReply };
+
+    fn from(_reply: UnknownAnswer) -> HistoryFault {
+        Self::BadReply
     }
 }
 

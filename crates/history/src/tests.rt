@@ -1,4 +1,7 @@
-use crate::{Action, Attempt, Call, Fault, History, HistoryFault, OpSet, Operation, replay};
+use crate::{
+    Action, Answer, Attempt, Call, Fault, History, HistoryFault, OpSet, Operation, UnknownAnswer,
+    replay,
+};
 use std::process::Abort;
 use std::test::Fail;
 
@@ -144,6 +147,17 @@ fn tags_at_their_limits(rt: HostRuntime) {
         assert_eq!(rt; number(history.reply(6, (tag, value))), 12);
         assert_eq!(rt; number(history.reply(5, (tag, value))), answer);
     }
+}
+
+#[test]
+fn answers_by_tag_and_value(rt: HostRuntime) {
+    assert_eq!(rt; Answer::try_from((0, 0)), Ok(Answer::Nothing));
+    assert_eq!(rt; Answer::try_from((0, 1)), Err(UnknownAnswer));
+    assert_eq!(rt; Answer::try_from((1, 65535)), Ok(Answer::Number(65535)));
+    assert_eq!(rt; Answer::try_from((2, 0)), Ok(Answer::Truth(false)));
+    assert_eq!(rt; Answer::try_from((2, 1)), Ok(Answer::Truth(true)));
+    assert_eq!(rt; Answer::try_from((2, 2)), Err(UnknownAnswer));
+    assert_eq!(rt; Answer::try_from((3, 0)), Err(UnknownAnswer));
 }
 
 #[test]

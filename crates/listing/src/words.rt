@@ -2,24 +2,25 @@
 ghost use Rattle.std.specs.Prelude.{◌≡◌, Some};
 ghost use Rattle.listing.specs.Words.{answer, names, printing, escaped, quoted, words};
 
-use history::OpSet;
+use history::{Answer, OpSet};
 use std::fmt;
 use trace::{Lettered, Record};
 
-// What a reply answers, by its tag and its value: nothing, a number, a truth, or what fits none of these.
+// What a reply answers, by its tag and its value; these stand themselves where they do not go together.
 #[derive(Clone, Copy)]
-struct Answer(u8, u16);
+struct Told(u8, u16);
 
-impl fmt::Display for Answer {
-    ghost output = { λ a. Some (answer a.0 a.1) };
+impl fmt::Display for Told {
+    ghost output = { λ t. Some (answer t.0 t.1) };
 
     fn fmt<W: fmt::Write>(&self, f: &mut fmt::Formatter<W>) -> fmt::Result {
-        match (self.0, self.1) {
-            (0, 0) => write!(f, "nothing"),
-            (1, number) => write!(f, "number {number}"),
-            (2, 0) => write!(f, "false"),
-            (2, 1) => write!(f, "true"),
-            (tag, value) => write!(f, "tag {tag} value {value}"),
+        let Told(tag, value) = *self;
+        match Answer::try_from((tag, value)) {
+            Ok(Answer::Nothing) => write!(f, "nothing"),
+            Ok(Answer::Number(number)) => write!(f, "number {number}"),
+            Ok(Answer::Truth(false)) => write!(f, "false"),
+            Ok(Answer::Truth(true)) => write!(f, "true"),
+            Err(_) => write!(f, "tag {tag} value {value}"),
         }
     }
 }
@@ -108,7 +109,7 @@ impl fmt::Display for Words<'_> {
                 )
             }
             Record::Reply { thread, tag, value } => {
-                write!(f, "reply: thread {thread}, {}", Answer(tag, value))
+                write!(f, "reply: thread {thread}, {}", Told(tag, value))
             }
             Record::Object(choice) => { write!(f, "object: letter {}, {choice}", choice.letter()) }
             Record::Criterion(choice) => {

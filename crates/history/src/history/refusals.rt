@@ -3,8 +3,9 @@ ghost use Rattle.std.specs.Prelude.{◌<◌, ◌≤◌, length, Decides, MatchOp
 ghost use Rattle.history.specs.Limits.{limit, last_thread};
 ghost use Rattle.history.specs.Log.{By, Open, Busy};
 ghost use Rattle.history.specs.Recorded.{log};
-ghost use Rattle.history.specs.Refusals.{Tagged, CallMeets, Judged, JudgedOpen, NamesAbsent, NamesOpen};
+ghost use Rattle.history.specs.Refusals.{CallMeets, Judged, JudgedOpen, NamesAbsent, NamesOpen};
 
+use crate::answers::Answer;
 use crate::history::History;
 use crate::limits::{LAST_THREAD, LIMIT};
 use crate::operations::{Call, HistoryFault};
@@ -15,18 +16,6 @@ fn is_unknown(thread: u8) -> bool
     ensures { Decides result (last_thread < thread) }
 {
     thread > LAST_THREAD
-}
-
-// Whether a reply has one of the tags, and a value that the tag allows.
-fn is_tagged(reply: (u8, u16)) -> bool
-    ensures { Decides result (Tagged reply) }
-{
-    match reply {
-        (0, value) => value == 0,
-        (1, _) => true,
-        (2, value) => value <= 1,
-        _ => false,
-    }
 }
 
 impl History {
@@ -95,9 +84,7 @@ impl History {
             return Err(HistoryFault::NoOpenCall);
         }
         let x = self.open_operation(thread).ok_or(HistoryFault::NoOpenCall)?;
-        if !is_tagged(reply) {
-            return Err(HistoryFault::BadReply);
-        }
+        let _answer = Answer::try_from(reply)?;
         Ok(x)
     }
 }
