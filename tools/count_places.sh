@@ -19,7 +19,8 @@ hits '_(object|criterion|call|reply|level|note|of|operations)\(|fn (object|crite
 hits 'for [a-z_]+ in .*\.\.|while |\bloop \{' | show '3  loops over a range, while, loop'
 hits 'impl.*\b(Copy|Clone|PartialEq|Eq|PartialOrd|Ord|From<[A-Za-z]+>|Display) |fn (from_|to_)[a-z]+|fn (number|letter|bits)\(|fn [a-z_]*(name|words|line|digit)\(|fn (quote_note|push_number|push_escaped|after_names)\(' |
     show '4  copying, conversion and printing by hand'
-hits '(requires|ensures)' | grep -E 'length operations.now ≤ 16|result < 128' | show '5  the same fact in three contracts or more'
+hits '(requires|ensures)' | sed -E 's/^[^:]*:[0-9]+: *//; s/^(requires|ensures)( [a-z_]+)? \{/\1 {/' | sort | uniq -c |
+    awk '$1 > 2 { n = $1; sub(/^ *[0-9]+ /, ""); for (i = 0; i < n; i++) print }' | show '5  the same clause in three contracts or more'
 hits 'IfOk result \(λ s\. string_bytes s|OnOk result \(string_bytes' | show '5  the same frame round a text in three contracts or more'
 hits 'fn .*\(([^,)]*,){2}' | show '5  three parameters or more'
 hits '\[[A-Za-z]+; [A-Z]+\]|: BoundedList<|\blen: usize' | show '6  arrays with a length, arrays side by side'

@@ -3,12 +3,8 @@ use Rattle.std.proofs.Output.{has_written_of_eq}
 use Rattle.std.proofs.lemmas.Grind.{put_two}
 use Rattle.history.specs.Sets.{Next}
 use Rattle.listing.specs.Words.{names_below}
-use Rattle.listing.proofs.Names.{names_next, names_all, names_none}
+use Rattle.listing.proofs.Names.{names_next, names_all}
 use Rattle.listing.proofs.words.AfterDisplay.fmt.Goals as goal
-
-pub returns-then-is_empty-clause-writes : goal.returns-then-is_empty-clause-writes
-returns-then-is_empty-clause-writes g c = λ plain ok.
-    has_written_of_eq _ _ _ _ _ (names_none c.args.self.now.0.bits (c.is_empty.ensures.0 c.if-is_empty.true)) (search rules)
 
 pub loop-i-preserved : goal.loop-i-preserved
 loop-i-preserved g c =
