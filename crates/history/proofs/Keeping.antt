@@ -7,6 +7,7 @@ use Rattle.history.specs.declared.operations.HistoryFault.TheVariants.{Full}
 use Rattle.history.specs.declared.operations.Operation.{Operation}
 use Rattle.history.specs.declared.opset.OpSet.{OpSet}
 use Rattle.history.specs.Bounded.{items}
+use Rattle.history.specs.Limits.{limit}
 use Rattle.history.specs.Log.{opened}
 use Rattle.history.specs.Order.{Ascending, Settled, Precedes}
 use Rattle.history.specs.Refusals.{CallMeets}
@@ -37,8 +38,9 @@ kept_none n = record {
   only = λ x y h f. none_has x (subst (λ s. Has s x) (row_none n y) h);
 }
 
-pub none_kept : Kept [] (replicate 12 (record { bits = 0 }))
-none_kept = kept_none 12
+-- a new history has them
+pub none_kept : Kept [] (replicate limit (record { bits = 0 }))
+none_kept = kept_none limit
 
 -- a call that is accepted, with the set of what is before it
 pub kept_push : (limit : ℕ) (log : List Operation) (table : List OpSet) (c : Call) → ((f : HistoryFault) → CallMeets limit log c f → ⊥) → Kept log table → length log < length table → (all : OpSet) → Reaches log c table all.bits → Kept (log ++ opened c ∷ []) (set table (length log) all)

@@ -13,7 +13,7 @@ with-requires c = (lit< tt, room limit (log c.args.self) c.args.call c.requires)
 pub invariant_of-result : goal.invariant_of-result
 invariant_of-result c =
     let h = c.args.self in
-    let slots : length h.before ≡ 12 = search rules in
+    let slots : length h.before ≡ limit = search rules in
     let free = room limit (log h) c.args.call c.requires in
     let kept = kept_push limit (log h) h.before c.args.call c.requires (kept h) (omega (arith, slots, free)) c.before_call.result c.before_call.ensures in
     grind (arith, kept)
