@@ -8,7 +8,6 @@ use Rattle.history.specs.declared.operations.Attempt.{Attempt}
 use Rattle.history.specs.declared.operations.HistoryFault.{HistoryFault}
 use Rattle.history.specs.declared.operations.Operation.{Operation}
 use Rattle.history.specs.Limits.{limit}
-use Rattle.history.specs.Numbers.{one_number}
 use Rattle.history.specs.Order.{Ascending, Settled}
 use Rattle.history.specs.Refusals.{number, Judged}
 use Rattle.history.specs.Steps.{Extends, Meets, Follows, Step, Runs, none, more, actions, Replays}
@@ -20,7 +19,7 @@ judged_once : (Met : HistoryFault → Type 0) (r s : Result Unit HistoryFault) �
 judged_once Met (Ok u) (Ok v) a b = refl
 judged_once Met (Ok u) (Err g) a b = grind (arith, a g)
 judged_once Met (Err f) (Ok v) a b = grind (arith, b f)
-judged_once Met (Err f) (Err g) a b = ap Err (refused_once number Met one_number f g a b)
+judged_once Met (Err f) (Err g) a b = ap Err (refused_once number Met (λ f g e. grind arith) f g a b)
 
 -- ---- one next log
 

@@ -5,7 +5,6 @@ pub mod Limits
 pub mod Log
 pub mod Refusals
 pub mod Answers
-pub mod Numbers
 pub mod Order
 pub mod Table
 pub mod Steps

@@ -1,8 +1,8 @@
 // What is recorded: calls, operations, and what may be done to a history.
+ghost use Rattle.std.proofs.Common.{arith};
 ghost use Rattle.std.specs.Prelude.{◌≡◌};
 ghost use Rattle.history.specs.declared.operations.HistoryFault.TheVariants.{BadReply};
 ghost use Rattle.history.specs.Refusals.{number as refusal};
-ghost use Rattle.history.specs.Numbers.{one_number};
 
 use crate::answers::UnknownAnswer;
 use crate::opset::OpSet;
@@ -48,7 +48,7 @@ pub enum HistoryFault {
 impl Fault for HistoryFault {
     ghost number_of = { refusal };
 
-    ghost distinct = { one_number };
+    ghost distinct = { λ f g e. Prim.grind arith };
 
     fn number(self) -> u8 {
         match self {

@@ -1,9 +1,9 @@
 // What one record of a trace says, and why one is refused.
+ghost use Rattle.std.proofs.Common.{arith};
 ghost use Rattle.std.specs.Prelude.{◌≡◌, Some};
 ghost use Rattle.trace.specs.declared.records.ReadFault.TheVariants.{BadLetter};
 ghost use Rattle.trace.specs.Names.{reason};
 ghost use Rattle.trace.specs.Refusals.{number as refusal};
-ghost use Rattle.trace.specs.Numbers.{one_number};
 
 use crate::letters::{CriterionChoice, Level, ObjectChoice, UnknownLetter};
 use faults::Fault;
@@ -59,7 +59,7 @@ pub enum ReadFault {
 impl Fault for ReadFault {
     ghost number_of = { refusal };
 
-    ghost distinct = { one_number };
+    ghost distinct = { λ f g e. Prim.grind arith };
 
     fn number(self) -> u8 {
         match self {

@@ -11,12 +11,13 @@ loop-i-preserved g c =
     let i = c.loop-i.invariant in
     let after = c.args.self.now.0.bits in
     let given = c.in-Some.ensures.steps in
+    let moved = given.2 in
     let next : Next after c.loop-i.i-iterator.from (Some c.in-Some.i) = subst (λ s. Next s.bits c.loop-i.i-iterator.from (Some c.in-Some.i)) i.2 given.1 in (
       tt,
       tt,
       given.0 ∙ i.2,
-      omega (arith, given.2.0, given.2.1),
-      λ plain. put_two _ _ _ _ _ (codes " " ++ decimal c.in-Some.i) _ (i.4 plain) (search rules) (names_next after _ _ next ∙ ap (λ n. names_below n after) (sym given.2.0)),
+      omega (arith, moved.0, moved.1),
+      λ plain. put_two _ _ _ _ _ (codes " " ++ decimal c.in-Some.i) _ (i.4 plain) (search rules) (names_next after _ _ next ∙ ap (λ n. names_below n after) (sym moved.0)),
     )
 
 pub returns-clause-writes : goal.returns-clause-writes
