@@ -8,7 +8,7 @@ pub loop-byte-preserved : goal.loop-byte-preserved
 loop-byte-preserved g c = λ plain.
     let i = c.loop-byte.invariant plain in
     elim c.if-has_room.branch [
-      then-has_room w ↦ (i.0, grind (arith, i.1, w.f-is), grind (arith, common_steps, i.2, w.piece-is))
+      | then-has_room w ↦ (i.0, grind (arith, i.1, w.f-is), grind (arith, common_steps, i.2, w.piece-is))
       | else-has_room+in_ok-write_str-2 w ↦ (i.0 ++ gathered c.loop-byte.piece, grind (arith, common_steps, i.1, w.f-is), grind (arith, common_steps, i.2, w.piece-is))
     ]
 
