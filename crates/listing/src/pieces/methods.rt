@@ -9,7 +9,7 @@ use crate::words::prints;
 use std::str;
 
 // The most bytes that one byte of a note becomes.
-const LONGEST: usize = 4;
+const WIDEST: usize = 4;
 
 // A hexadecimal digit.
 fn hex_digit(n: u8) -> u8
@@ -44,7 +44,7 @@ impl Piece {
     pub(crate) fn has_room(&self) -> bool
         ensures { Decides result (HasRoom self.now) }
     {
-        self.len <= ROOM - LONGEST
+        self.len <= ROOM - WIDEST
     }
 
     // The text.

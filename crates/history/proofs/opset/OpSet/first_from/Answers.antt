@@ -1,4 +1,4 @@
-use Rattle.std.proofs.Common.{◌/◌, ◌^◌, arith}
+use Rattle.std.proofs.Common.{arith}
 use Rattle.history.proofs.opset.OpSet.first_from.Goals as goal
 use Rattle.history.proofs.Membership.{has_below, lowest_from}
 

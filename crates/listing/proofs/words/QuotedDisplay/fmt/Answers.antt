@@ -1,4 +1,4 @@
-use Rattle.std.proofs.Common.{◌∷◌, ◌++◌, append_assoc, arith}
+use Rattle.std.proofs.Common.{◌++◌, arith}
 use Rattle.std.proofs.lemmas.Grind.{common_steps}
 use Rattle.listing.specs.Pieces.{gathered}
 use Rattle.listing.proofs.words.QuotedDisplay.fmt.Goals as goal
