@@ -105,11 +105,19 @@ impl OpSet {
     }
 
     // The lowest member from n on.
+    #[tactic(auto, using(crate::proofs::Membership::from_here))]
     fn first_from(self, n: usize) -> Option<usize>
         ensures lowest { Next self.bits n result }
         ensures bound { IfSome result (λ i. i < 16) }
     {
-        (n..WIDTH).find(|i| self.contains(*i))
+        if n >= WIDTH {
+            return None;
+        }
+        let rest = self.bits >> n;
+        if rest == 0 {
+            return None;
+        }
+        Some(n + rest.trailing_zeros() as usize)
     }
 
     // The members from n on, ascending.

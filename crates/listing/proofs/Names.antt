@@ -10,7 +10,7 @@ use Rattle.history.specs.Sets.{Has, Empty, Next}
 use Rattle.history.proofs.Membership.{none_has, empty_decides}
 use Rattle.listing.specs.Words.{named, names, names_below}
 
-names_more : (n after : ℕ) → names_below (n + 1) after ≡ names_below n after ++ cond (named after n) (codes " " ++ decimal n) []
+pub names_more : (n after : ℕ) → names_below (n + 1) after ≡ names_below n after ++ cond (named after n) (codes " " ++ decimal n) []
 names_more n after = grind (arith, append-nil, map-id, flat_map-append, map-range_with_len_more (λ i. i) 0 n n)
 
 -- past numbers that are not named, nothing is added

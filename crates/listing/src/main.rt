@@ -7,6 +7,7 @@ use std::process::ExitCode;
 use trace::count_records;
 
 mod lines;
+mod pieces;
 #[cfg(test)]
 mod tests;
 mod words;

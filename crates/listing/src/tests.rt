@@ -44,6 +44,15 @@ fn each_record_in_words(rt: HostRuntime) -> Result<(), Fail> {
 }
 
 #[test]
+fn a_note_of_several_pieces(rt: HostRuntime) -> Result<(), Fail> {
+    check_listing(
+        &rt,
+        b"NO\x16\xff\xff\xff\xff\xff\xff\xff\xff\xff\xff\xff\xff\xff\xff\xff\xff\xffend\x00.",
+        "0  note: \"\\xff\\xff\\xff\\xff\\xff\\xff\\xff\\xff\\xff\\xff\\xff\\xff\\xff\\xff\\xff\\xff\\xffend\\x00.\"\n1 record\n",
+    )
+}
+
+#[test]
 fn replies_that_fit_no_tag(rt: HostRuntime) -> Result<(), Fail> {
     check_listing(
         &rt,

@@ -1,7 +1,8 @@
 // Records in words.
 ghost use Rattle.std.specs.Prelude.{◌≡◌, Some};
-ghost use Rattle.listing.specs.Words.{answer, names, printing, escaped, quoted, words};
+ghost use Rattle.listing.specs.Words.{answer, names, printing, quoted, words};
 
+use crate::pieces::Piece;
 use history::{Answer, OpSet};
 use std::fmt;
 use trace::{Lettered, Record};
@@ -45,28 +46,10 @@ impl fmt::Display for After {
 }
 
 // Whether a byte of a note stands for itself in a listing.
-fn prints(byte: u8) -> bool
+pub(crate) fn prints(byte: u8) -> bool
     ensures { result ≡ printing byte }
 {
     byte > 31 && byte < 127 && byte != b'"' && byte != b'\\'
-}
-
-// A byte of a note: itself where it prints, else its number.
-#[derive(Clone, Copy)]
-struct Escaped(u8);
-
-impl fmt::Display for Escaped {
-    ghost output = { λ e. Some (escaped e.0) };
-
-    #[tactic(auto, using(std::proofs::lemmas::Fmt::hex_byte))]
-    fn fmt<W: fmt::Write>(&self, f: &mut fmt::Formatter<W>) -> fmt::Result {
-        let byte = self.0;
-        if prints(byte) {
-            write!(f, "{}", byte as char)
-        } else {
-            write!(f, "\\x{byte:02x}")
-        }
-    }
 }
 
 // A note's text between quotation marks.
@@ -77,11 +60,18 @@ impl fmt::Display for Quoted<'_> {
     ghost output = { λ q. Some (quoted q.0.now) };
 
     fn fmt<W: fmt::Write>(&self, f: &mut fmt::Formatter<W>) -> fmt::Result {
-        write!(f, "\"")?;
+        f.write_str("\"")?;
+        let mut piece = Piece::new();
         for byte in self.0 {
-            write!(f, "{}", Escaped(*byte))?;
+            if piece.has_room() {
+                piece.push_escaped(*byte);
+            } else {
+                f.write_str(piece.as_str())?;
+                piece = Piece::of(*byte);
+            }
         }
-        write!(f, "\"")
+        f.write_str(piece.as_str())?;
+        f.write_str("\"")
     }
 }
 

@@ -1,8 +1,12 @@
 -- A record is refused behind its mark: no other mark is there, and what is checked earlier does not hold.
-use Rattle.std.proofs.Common.{ℕ, ◌+◌, ◌<◌, ◌≤◌, List, ◌++◌, length, arith}
+use Rattle.std.proofs.Common.{◌≡◌, ℕ, ◌+◌, ◌<◌, ◌≤◌, List, ◌++◌, length, arith}
 use Rattle.trace.specs.declared.records.ReadFault.TheVariants.{PastEnd, BadLetter}
 use Rattle.trace.specs.Format.{Sort, call, reply, object, criterion, level, note, mark}
 use Rattle.trace.specs.Refusals.{size, Misnamed, Refused}
+
+-- no two sorts have one mark
+pub one_mark : (s t : Sort) → mark s ≡ mark t → s ≡ t
+one_mark s t e = grind arith
 
 -- a record of a sort is refused where it is cut short, and where it is whole and its letter is wrong
 abbrev Behind : Sort → Type 0

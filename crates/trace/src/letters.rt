@@ -74,14 +74,23 @@ impl Lettered for ObjectChoice {
     }
 }
 
+impl ObjectChoice {
+    // Its name.
+    fn name(self) -> &'static str
+        ensures { result.now ≡ name_of_object self }
+    {
+        match self {
+            ObjectChoice::Map => "map",
+            ObjectChoice::Queue => "queue",
+        }
+    }
+}
+
 impl fmt::Display for ObjectChoice {
     ghost output = { λ x. Some (name_of_object x) };
 
     fn fmt<W: fmt::Write>(&self, f: &mut fmt::Formatter<W>) -> fmt::Result {
-        f.write_str(match self {
-            ObjectChoice::Map => "map",
-            ObjectChoice::Queue => "queue",
-        })
+        f.write_str(self.name())
     }
 }
 
@@ -125,16 +134,25 @@ impl Lettered for CriterionChoice {
     }
 }
 
-impl fmt::Display for CriterionChoice {
-    ghost output = { λ x. Some (name_of_criterion x) };
-
-    fn fmt<W: fmt::Write>(&self, f: &mut fmt::Formatter<W>) -> fmt::Result {
-        f.write_str(match self {
+impl CriterionChoice {
+    // Its name.
+    fn name(self) -> &'static str
+        ensures { result.now ≡ name_of_criterion self }
+    {
+        match self {
             CriterionChoice::Levels => "levels",
             CriterionChoice::ReadMyWrites => "read my writes",
             CriterionChoice::MonotonicReads => "monotonic reads",
             CriterionChoice::CausalConvergence => "causal convergence",
-        })
+        }
+    }
+}
+
+impl fmt::Display for CriterionChoice {
+    ghost output = { λ x. Some (name_of_criterion x) };
+
+    fn fmt<W: fmt::Write>(&self, f: &mut fmt::Formatter<W>) -> fmt::Result {
+        f.write_str(self.name())
     }
 }
 
@@ -184,17 +202,26 @@ impl Lettered for Level {
     }
 }
 
-impl fmt::Display for Level {
-    ghost output = { λ x. Some (name_of_level x) };
-
-    fn fmt<W: fmt::Write>(&self, f: &mut fmt::Formatter<W>) -> fmt::Result {
-        f.write_str(match self {
+impl Level {
+    // Its name.
+    fn name(self) -> &'static str
+        ensures { result.now ≡ name_of_level self }
+    {
+        match self {
             Level::Weak => "weak",
             Level::Basic => "basic",
             Level::Monotonic => "monotonic",
             Level::Peer => "peer",
             Level::Causal => "causal",
             Level::Complete => "complete",
-        })
+        }
+    }
+}
+
+impl fmt::Display for Level {
+    ghost output = { λ x. Some (name_of_level x) };
+
+    fn fmt<W: fmt::Write>(&self, f: &mut fmt::Formatter<W>) -> fmt::Result {
+        f.write_str(self.name())
     }
 }

@@ -71,16 +71,25 @@ impl Fault for ReadFault {
     }
 }
 
-impl fmt::Display for ReadFault {
-    ghost output = { λ f. Some (reason f) };
-
-    fn fmt<W: fmt::Write>(&self, f: &mut fmt::Formatter<W>) -> fmt::Result {
-        f.write_str(match self {
+impl ReadFault {
+    // The reason in words.
+    fn words(self) -> &'static str
+        ensures { result.now ≡ reason self }
+    {
+        match self {
             ReadFault::OneByteLeft => "a single byte is left",
             ReadFault::UnknownMark => "no record has this mark",
             ReadFault::PastEnd => "the trace ends inside this record",
             ReadFault::BadLetter => "an unknown letter, or a level for a kind above 7",
-        })
+        }
+    }
+}
+
+impl fmt::Display for ReadFault {
+    ghost output = { λ f. Some (reason f) };
+
+    fn fmt<W: fmt::Write>(&self, f: &mut fmt::Formatter<W>) -> fmt::Result {
+        f.write_str(self.words())
     }
 }
 

@@ -1,15 +1,11 @@
-use Rattle.std.proofs.Common.{ℕ, ◌<◌, ◌≤◌, ◌^◌, Option, MatchOption, Some, None, arith, rules}
-use Rattle.std.proofs.lemmas.Iterator.{first_from_Range}
-use Rattle.history.specs.Sets.{Has, Next}
+use Rattle.std.proofs.Common.{arith}
 use Rattle.history.proofs.opset.OpSet.first_from.Goals as goal
-use Rattle.history.proofs.Membership.{has_below}
+use Rattle.history.proofs.Membership.{has_below, lowest_from}
 
--- none is further up than the sixteen digits go
-next_from_first : (s from : ℕ) (found : Option ℕ) → s < 2 ^ 16 → MatchOption found ((k : ℕ) → from ≤ k → k < 16 → Has s k → ⊥) (λ i. (from ≤ i) × (i < 16) × Has s i × ((k : ℕ) → from ≤ k → k < i → Has s k → ⊥)) → Next s from found
-next_from_first s from None l f = λ j a h. f j a (has_below 16 s j l h) h
-next_from_first s from (Some i) l f = (f.0, f.2, f.3)
+pub returns-then-n-ge-WIDTH-clause-lowest : goal.returns-then-n-ge-WIDTH-clause-lowest
+returns-then-n-ge-WIDTH-clause-lowest c = λ j a h. omega (arith, has_below 16 c.args.self.bits j (omega arith) h)
 
-pub returns-clause-lowest : goal.returns-clause-lowest
-returns-clause-lowest c =
+pub returns-clause-bound : goal.returns-clause-bound
+returns-clause-bound c =
     let s = c.args.self.bits in
-    next_from_first s c.args.n c.find.result (omega arith) (first_from_Range _ _ _ c.find.result (Has s) (λ k. Has s k → ⊥) c.find.ensures.ran (λ x q k. search rules) (λ x q k. search rules))
+    has_below 16 s _ (omega arith) (lowest_from s c.args.n (omega arith) (omega arith)).1
