@@ -1,5 +1,5 @@
 #!/bin/sh
-# Counts the places in src/, tests left out, that docs/DESIGN-PASS.md speaks of. With the argument `-v` it prints each of them.
+# Counts the places in src/ and, at the end, in proofs/, tests left out, that docs/DESIGN-PASS.md speaks of. With the argument `-v` it prints each of them.
 cd "$(dirname "$0")/.." || exit 1
 code() { find crates -path '*/out' -prune -o -path '*/src/*' -name '*.rt' ! -name tests.rt -print | sort; }
 hits() { code | xargs grep -nE "$1" | grep -vE '^[^:]*:[0-9]+: *//'; }
