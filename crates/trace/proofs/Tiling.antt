@@ -1,5 +1,5 @@
 -- Records that stand one behind the other.
-use Rattle.std.proofs.Common.{◌≡◌, ℕ, suc, ◌+◌, ◌-◌, ◌≤◌, List, [], ◌∷◌, ◌++◌, length, take, drop, Some, Ok, Err, Result, sym, refl, ap, subst, arith, length-append}
+use Rattle.std.proofs.Common.{◌≡◌, ℕ, suc, ◌+◌, ◌-◌, ◌≤◌, List, [], ◌∷◌, ◌++◌, length, take, drop, Some, None, Ok, Err, Result, sym, refl, ap, subst, arith, length-append}
 use Rattle.std.proofs.lemmas.Grind.{common_steps}
 use Rattle.std.proofs.lemmas.List.{drop-drop, drop_at, take_rest}
 use Rattle.trace.specs.declared.reader.Reader.{Reader}
@@ -60,3 +60,11 @@ passed_none trace r same start = grind (arith, none)
 
 pub passed_more : {trace : List ℕ} {r : Reader} {count : ℕ} {ps : List Placed} → Passed trace r count ps → (s : Reader) (p : Placed) → s.trace ≡ r.trace → Answers r.trace.now r.at (Ok (Some p)) s.at → Passed trace s (count + 1) (ps ++ p ∷ [])
 passed_more past s p kept read = grind (arith, common_steps, tiles_push)
+
+-- and where it ends then, the trace is these records, or is refused behind them
+module _ {trace : List ℕ} {r : Reader} {count : ℕ} {ps : List Placed} (past : Passed trace r count ps) where
+  pub passed_end : (n : ℕ) → Answers r.trace.now r.at (Ok None) n → Parses trace ps (Ok count)
+  passed_end n read = grind (arith, common_steps, past)
+
+  pub passed_refused : (x : Refusal) (n : ℕ) → Answers r.trace.now r.at (Err x) n → Parses trace ps (Err x)
+  passed_refused x n read = grind (arith, common_steps, past)
